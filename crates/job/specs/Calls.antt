@@ -1,0 +1,98 @@
+-- Opening and feeding a job, for every state and all lent memory. Document 01, "Memory lent" and "What a call gives back".
+use Prim.Native.Nat.{ℕ, _+_}
+use mathlib.Core.Bool.{cond}
+use mathlib.Core.List.{List, [], _∷_}
+use lib.Dec.{eqb, ltb}
+use lib.ListN.{length}
+use Rattle.sheet.specs.declared.Form.{Form}
+use Rattle.sheet.specs.Edition.{Edition}
+use Rattle.sheet.specs.Form.{lines-allowed, page-bytes, spacing-allowed}
+use Rattle.printer.specs.declared.Event.{Event}
+use Rattle.printer.specs.declared.Event.the-variants as event
+use Rattle.printer.specs.Bytes.{step}
+use Rattle.printer.specs.Machine.{Machine, opened, shut, with-printer}
+use Rattle.printer.specs.Sound.{sound}
+use Rattle.printer.specs.Steps.{Step}
+use Rattle.job.specs.declared.Answer.{Answer}
+use Rattle.job.specs.declared.Answer.the-variants.{Done, Finished, Noted, Full, Unsound, Misfit, PastForm, WrongLines, WrongSpacing}
+use Rattle.job.specs.declared.Fit.{Fit}
+use Rattle.job.specs.declared.Fit.the-variants.{Right, Wrong}
+use Rattle.job.specs.declared.Lent.{Lent}
+use Rattle.job.specs.declared.Lent.the-variants.{Page, LineStore, Staging, DownloadStore, Font}
+
+-- the first of what is lent that has not the exact length: page L × R × 825 bytes; line store 2,200 numbers; staging, download store and font
+-- 2,048 bytes each
+unfoldable pub fit : Edition → Form → List ℕ → Machine → Fit
+fit e f font m =
+    cond (eqb (length (m .page)) (page-bytes e f))
+    (cond (eqb (length (m .line)) (e .columns))
+    (cond (eqb (length (m .staging)) 2048)
+    (cond (eqb (length (m .store)) 2048)
+    (cond (eqb (length font) 2048) Right (Wrong Font))
+    (Wrong DownloadStore))
+    (Wrong Staging))
+    (Wrong LineStore))
+    (Wrong Page)
+
+-- what opening gives back, with the memory as it leaves it
+pub record Opening : Type 0 where
+  pub answer : Answer
+  pub machine : Machine
+
+-- a refused opening gives the shut state and changes no lent memory
+abbrev pub unopened : Edition → Answer → Machine → Opening
+unopened e a m = record { answer = a; machine = with-printer (shut e) m }
+
+unfoldable pub open-fitted : Edition → Form → Fit → Machine → Opening
+open-fitted e f Right m = record { answer = Done; machine = opened e f }
+open-fitted e f (Wrong lent) m = unopened e (Misfit lent) m
+
+-- opening, over a machine of which only the memory counts: 18, 19, 11 to 15, then 0
+unfoldable pub opening : Edition → ℕ → ℕ → List ℕ → Machine → Opening
+opening e lines spacing font m =
+    let f : Form = record { lines = lines; spacing = spacing } in
+    cond (lines-allowed e lines)
+    (cond (spacing-allowed spacing) (open-fitted e f (fit e f font m) m) (unopened e WrongSpacing m))
+    (unopened e WrongLines m)
+
+-- what feeding gives back, with the memory as it leaves it
+pub record Feeding : Type 0 where
+  pub answer : Answer
+  pub taken : ℕ
+  pub machine : Machine
+
+-- nothing taken, the state and the memory as they are
+abbrev pub stopped : Answer → Machine → Feeding
+stopped a m = record { answer = a; taken = 0; machine = m }
+
+-- the same with one byte more taken before it
+abbrev pub one-more : Feeding → Feeding
+one-more f = record { answer = f .answer; taken = f .taken + 1; machine = f .machine }
+
+-- the most bytes that a job may have
+abbrev pub limit : ℕ
+limit = 4294967295
+
+-- One byte taken by machine m leads to machine n: an event that is to be told ends the call through that byte, a guard before it; a quiet byte
+-- leaves it to the bytes that follow.
+unfoldable pub heard : Event → Machine → Machine → Feeding → Feeding
+heard event.Quiet m n after = one-more after
+heard event.Finished m n after = record { answer = Finished; taken = 1; machine = n }
+heard (event.Noted f place) m n after = record { answer = Noted f place; taken = 1; machine = n }
+heard event.Guard m n after = stopped PastForm m
+
+-- the bytes of a piece, taken one after the other while they fit the job
+unfoldable pub take-bytes : Edition → List ℕ → List ℕ → Machine → Feeding
+take-bytes e font [] m = stopped Done m
+take-bytes e font (b ∷ bs) m =
+    let s : Step = step e font b m in
+    cond (ltb (m .printer .job) limit) (heard (s .event) m (s .machine) (take-bytes e font bs (s .machine))) (stopped Full m)
+
+unfoldable pub feed-fitted : Edition → List ℕ → List ℕ → Fit → Machine → Feeding
+feed-fitted e font piece Right m = take-bytes e font piece m
+feed-fitted e font piece (Wrong lent) m = stopped (Misfit lent) m
+
+-- feeding a piece: 10, 11 to 15 in order, then bytes
+unfoldable pub feeding : Edition → List ℕ → List ℕ → Machine → Feeding
+feeding e font piece m =
+    cond (sound e (m .printer)) (feed-fitted e font piece (fit e (m .printer .form) font m) m) (stopped Unsound m)

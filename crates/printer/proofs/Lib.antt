@@ -1,0 +1,2 @@
+-- What is true of the printer.
+pub mod Table

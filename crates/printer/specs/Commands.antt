@@ -1,0 +1,139 @@
+-- The whole job at once, as a list of commands, of which only the last may be unfinished.
+use Prim.Native.Nat.{ℕ, zero, suc, _+_, _-_, _*_, _%_}
+use mathlib.Core.Bool.{Bool, true, false, cond}
+use mathlib.Core.List.{List, [], _∷_}
+use lib.Dec.{eqb}
+use lib.ListN.{drop, length, take}
+use Rattle.sheet.specs.Edition.{Edition}
+use Rattle.printer.specs.declared.Pending.the-variants.{Escape, Tabs, Reset, Select, SelectLow, CountHigh, CountLow, AddressHigh, AddressLow, Payload}
+use Rattle.printer.specs.Alone.{alone}
+use Rattle.printer.specs.Downloads.{download, stage, total}
+use Rattle.printer.specs.Escapes.{clear-tabs, escape, reset, select, tab-item}
+use Rattle.printer.specs.Machine.{Machine, with-job, with-pending, with-staging}
+use Rattle.printer.specs.Plotting.{plot-escape}
+use Rattle.printer.specs.Steps.{Outcome, silent, tell-step, then}
+
+-- a whole command
+pub data Command : Type 0 where
+  byte : ℕ → Command  -- one byte
+  escaped : ℕ → Command  -- ESC and a byte
+  tab-list : List ℕ → Command  -- ESC F, the items, 00
+  resetting : ℕ → Command  -- ESC c and a byte
+  selecting : ℕ → ℕ → Command  -- ESC N and two bytes
+  loading : ℕ → ℕ → List ℕ → ℕ → Command  -- ESC Y, count, address, payload, checksum
+
+-- the first command of some bytes: whole, with the bytes that follow it, or unfinished
+pub data Cut : Type 0 where
+  whole : Command → List ℕ → Cut
+  unfinished : Cut
+
+-- the items of a tab list and the bytes after its 00, where it has one
+pub data Items : Type 0 where
+  listed : List ℕ → List ℕ → Items
+  endless : Items
+
+unfoldable pub item : ℕ → Items → Items
+item n (listed ns rest) = listed (n ∷ ns) rest
+item n endless = endless
+
+unfoldable pub items : List ℕ → Items
+items [] = endless
+items (b ∷ bs) = cond (eqb b 0) (listed [] bs) (item b (items bs))
+
+unfoldable pub cut-tabs : Items → Cut
+cut-tabs (listed ns rest) = whole (tab-list ns) rest
+cut-tabs endless = unfinished
+
+unfoldable pub cut-reset : List ℕ → Cut
+cut-reset [] = unfinished
+cut-reset (b ∷ rest) = whole (resetting b) rest
+
+unfoldable pub cut-select : List ℕ → Cut
+cut-select [] = unfinished
+cut-select (high ∷ []) = unfinished
+cut-select (high ∷ low ∷ rest) = whole (selecting high low) rest
+
+-- the checksum, after all of the payload
+unfoldable pub cut-checksum : ℕ → ℕ → List ℕ → List ℕ → Cut
+cut-checksum count address payload [] = unfinished
+cut-checksum count address payload (checksum ∷ rest) = whole (loading count address payload checksum) rest
+
+-- count (two bytes, high first), address (two), that many payload bytes, a checksum
+unfoldable pub cut-download : List ℕ → Cut
+cut-download [] = unfinished
+cut-download (a ∷ []) = unfinished
+cut-download (a ∷ b ∷ []) = unfinished
+cut-download (a ∷ b ∷ c ∷ []) = unfinished
+cut-download (a ∷ b ∷ c ∷ d ∷ bs) =
+    let count : ℕ = a * 256 + b in
+    cut-checksum count (c * 256 + d) (take count bs) (drop count bs)
+
+-- what follows an ESC; in plot mode every such command has one byte more
+unfoldable pub cut-escape : Bool → List ℕ → Cut
+cut-escape plotting [] = unfinished
+cut-escape true (b ∷ bs) = whole (escaped b) bs
+cut-escape false (b ∷ bs) =
+    cond (eqb b 0x46) (cut-tabs (items bs))
+    (cond (eqb b 0x63) (cut-reset bs)
+    (cond (eqb b 0x59) (cut-download bs)
+    (cond (eqb b 0x4e) (cut-select bs)
+    (whole (escaped b) bs))))
+
+-- the first command of b and the bytes after it
+unfoldable pub cut : Bool → ℕ → List ℕ → Cut
+cut plotting b bs = cond (eqb b 0x1b) (cut-escape plotting bs) (whole (byte b) bs)
+
+-- the items of a tab list, the first of them at a place
+unfoldable pub set-tabs : Edition → List ℕ → ℕ → Machine → Outcome
+set-tabs e [] place m = silent m
+set-tabs e (n ∷ ns) place m = then (tell-step e (tab-item n place m)) (set-tabs e ns (place + 1))
+
+module _ (e : Edition) (font : List ℕ) where
+  -- a whole command that began at a place; the machine has its bytes counted and nothing pending
+  unfoldable pub obey : Command → ℕ → Machine → Outcome
+  obey (byte b) place m = tell-step e (alone e font b place m)
+  obey (escaped b) place m = tell-step e (cond (m .printer .head .plotting) (plot-escape e b place m) (escape b place m))
+  obey (tab-list ns) place m = set-tabs e ns (place + 2) (clear-tabs e m)
+  obey (resetting b) place m = tell-step e (reset e b place m)
+  obey (selecting high low) place m = tell-step e (select high low place m)
+  obey (loading count address payload checksum) place m =
+      tell-step e (download count address (total payload % 256) checksum place (with-staging (stage 0 payload (m .staging)) m))
+
+  -- what a download leaves that is not whole, by the bytes after its Y: its payload is staged as far as it came
+  unfoldable pub leave-download : List ℕ → ℕ → Machine → Machine
+  leave-download [] place m = with-pending (CountHigh place) m
+  leave-download (a ∷ []) place m = with-pending (CountLow place a) m
+  leave-download (a ∷ b ∷ []) place m = with-pending (AddressHigh place (a * 256 + b)) m
+  leave-download (a ∷ b ∷ c ∷ []) place m = with-pending (AddressLow place (a * 256 + b) c) m
+  leave-download (a ∷ b ∷ c ∷ d ∷ bs) place m =
+      with-pending (Payload place (record { count = a * 256 + b; address = c * 256 + d; paid = length bs; sum = total bs % 256 }))
+      (with-staging (stage 0 bs (m .staging)) m)
+
+  unfoldable pub leave-select : List ℕ → ℕ → Machine → Machine
+  leave-select [] place m = with-pending (Select place) m
+  leave-select (high ∷ bs) place m = with-pending (SelectLow place high) m
+
+  -- what an unfinished command leaves, by the bytes after its ESC: a tab list half sent has already set its items
+  unfoldable pub leave : List ℕ → ℕ → Machine → Outcome
+  leave [] place m = silent (with-pending (Escape place) m)
+  leave (b ∷ bs) place m =
+      cond (eqb b 0x46) (set-tabs e bs (place + 2) (with-pending (Tabs place) (clear-tabs e m)))
+      (cond (eqb b 0x63) (silent (with-pending (Reset place) m))
+      (cond (eqb b 0x59) (silent (leave-download bs place m))
+      (silent (leave-select bs place m))))
+
+  -- The first command of a byte and the bytes bs after it, and `go` for the bytes after that command.
+  unfoldable pub read-cut : (List ℕ → Machine → Outcome) → Cut → List ℕ → Machine → Outcome
+  read-cut go (whole c rest) bs m =
+      then (obey c (m .printer .job) (with-job (m .printer .job + (suc (length bs) - length rest)) m)) (go rest)
+  read-cut go unfinished bs m = leave bs (m .printer .job) (with-job (m .printer .job + suc (length bs)) m)
+
+  -- at most so many commands
+  unfoldable pub read : ℕ → List ℕ → Machine → Outcome
+  read zero bs m = silent m
+  read (suc commands) [] m = silent m
+  read (suc commands) (b ∷ bs) m = read-cut (read commands) (cut (m .printer .head .plotting) b bs) bs m
+
+  -- the whole job: it has no more commands than bytes
+  unfoldable pub reading : List ℕ → Machine → Outcome
+  reading job m = read (length job) job m

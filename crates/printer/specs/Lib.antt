@@ -1,0 +1,16 @@
+-- The printer: its state and memory, what is sound, the rules of document 01 command by command, and its two readings: byte by byte, and the
+-- whole job as a list of commands.
+pub mod Machine
+pub mod Sound
+pub mod Closing
+pub mod Numbers
+pub mod Steps
+pub mod Printing
+pub mod Terminators
+pub mod Escapes
+pub mod Plotting
+pub mod Downloads
+pub mod Alone
+pub mod Bytes
+pub mod Commands
+pub mod Table

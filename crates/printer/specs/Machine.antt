@@ -1,0 +1,92 @@
+-- The printer with the memory that it is lent. Document 01, "Memory lent".
+use Prim.Native.Nat.{ℕ}
+use mathlib.Core.Bool.{Bool, true, false}
+use mathlib.Core.List.{List}
+use lib.ListN.{replicate}
+use Rattle.sheet.specs.declared.Form.{Form}
+use Rattle.sheet.specs.declared.Pitch.the-variants.{Normal}
+use Rattle.sheet.specs.declared.Row.{Row}
+use Rattle.sheet.specs.Edition.{Edition}
+use Rattle.sheet.specs.Form.{blank-page, empty-line, top}
+use Rattle.printer.specs.declared.Head.{Head}
+use Rattle.printer.specs.declared.Pending.{Pending}
+use Rattle.printer.specs.declared.Pending.the-variants.{Nothing}
+use Rattle.printer.specs.declared.Printer.{Printer}
+use Rattle.printer.specs.declared.Style.{Style}
+
+-- the state, the page, the line store, the staging store and the download store
+pub record Machine : Type 0 where
+  pub printer : Printer
+  pub page : List ℕ
+  pub line : List ℕ
+  pub staging : List ℕ
+  pub store : List ℕ
+
+-- 2,048 bytes of zero: a staging store or a download store that holds nothing
+unfoldable pub empty-store : List ℕ
+empty-store = replicate 2048 0
+
+-- no tab at any line
+unfoldable pub no-tabs : Edition → List Bool
+no-tabs e = replicate (e .longest) false
+
+-- the head on a fresh line at a row
+abbrev pub fresh-head : Row → Head
+fresh-head r = record { row = r; column = 0; fresh = true; plotted = false; plotting = false }
+
+-- normal pitch, all features off
+abbrev pub plain-style : Style
+plain-style = record { pitch = Normal; elongated = false; underscore = false; downloaded = false }
+
+-- the state at the start of a job: row 0, column 0, normal pitch, all features off, no tabs
+abbrev pub new-printer : Edition → Form → Printer
+new-printer e f = record { form = f; job = 0; pending = Nothing; head = fresh-head top; style = plain-style; tabs = no-tabs e }
+
+-- the shut state, L = 0
+abbrev pub shut : Edition → Printer
+shut e = new-printer e (record { lines = 0; spacing = 0 })
+
+-- a job just opened: the page and the stores are zeroed
+abbrev pub opened : Edition → Form → Machine
+opened e f = record { printer = new-printer e f; page = blank-page e f; line = empty-line e; staging = empty-store; store = empty-store }
+
+-- The machine with one part of it changed.
+abbrev pub with-printer : Printer → Machine → Machine
+with-printer p m = record { printer = p; page = m .page; line = m .line; staging = m .staging; store = m .store }
+
+abbrev pub with-page : List ℕ → Machine → Machine
+with-page page m = record { printer = m .printer; page = page; line = m .line; staging = m .staging; store = m .store }
+
+abbrev pub with-line : List ℕ → Machine → Machine
+with-line line m = record { printer = m .printer; page = m .page; line = line; staging = m .staging; store = m .store }
+
+abbrev pub with-staging : List ℕ → Machine → Machine
+with-staging staging m = record { printer = m .printer; page = m .page; line = m .line; staging = staging; store = m .store }
+
+abbrev pub with-store : List ℕ → Machine → Machine
+with-store store m = record { printer = m .printer; page = m .page; line = m .line; staging = m .staging; store = store }
+
+abbrev pub with-job : ℕ → Machine → Machine
+with-job n m =
+    let p : Printer = m .printer in
+    with-printer (record { form = p .form; job = n; pending = p .pending; head = p .head; style = p .style; tabs = p .tabs }) m
+
+abbrev pub with-pending : Pending → Machine → Machine
+with-pending q m =
+    let p : Printer = m .printer in
+    with-printer (record { form = p .form; job = p .job; pending = q; head = p .head; style = p .style; tabs = p .tabs }) m
+
+abbrev pub with-head : Head → Machine → Machine
+with-head h m =
+    let p : Printer = m .printer in
+    with-printer (record { form = p .form; job = p .job; pending = p .pending; head = h; style = p .style; tabs = p .tabs }) m
+
+abbrev pub with-style : Style → Machine → Machine
+with-style s m =
+    let p : Printer = m .printer in
+    with-printer (record { form = p .form; job = p .job; pending = p .pending; head = p .head; style = s; tabs = p .tabs }) m
+
+abbrev pub with-tabs : List Bool → Machine → Machine
+with-tabs t m =
+    let p : Printer = m .printer in
+    with-printer (record { form = p .form; job = p .job; pending = p .pending; head = p .head; style = p .style; tabs = t }) m

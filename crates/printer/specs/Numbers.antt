@@ -1,0 +1,30 @@
+-- Document 01's numbers of what a caller is told.
+use Prim.Native.Nat.{ℕ}
+use mathlib.Core.List.{List, [], _∷_}
+use Rattle.printer.specs.declared.Fault.{Fault}
+use Rattle.printer.specs.declared.Fault.the-variants.{UnknownCommand, LineFull, Checksum, UnnamedControl, HighByte, OutOfTurn, WrongBytes, PlotLine, DownloadRange, TabLine, IllFormed}
+use Rattle.printer.specs.Steps.{Told, form, note}
+
+-- the number of a note
+unfoldable pub note-number : Fault → ℕ
+note-number UnknownCommand = 42
+note-number LineFull = 44
+note-number Checksum = 45
+note-number UnnamedControl = 46
+note-number HighByte = 46
+note-number OutOfTurn = 46
+note-number WrongBytes = 46
+note-number PlotLine = 46
+note-number DownloadRange = 46
+note-number TabLine = 48
+note-number IllFormed = 80
+
+-- an answer's number in document 01's table, and its values: of a note its number and place
+pub record Report : Type 0 where
+  pub number : ℕ
+  pub values : List ℕ
+
+-- a form finished is answer 1, a note answer 2
+unfoldable pub told-report : Told → Report
+told-report (form page) = record { number = 1; values = [] }
+told-report (note f place) = record { number = 2; values = note-number f ∷ place ∷ [] }

@@ -1,0 +1,96 @@
+-- Which states are sound. Document 01, "What a call gives back". The job's length and a download's count and address are in range by their types,
+-- u32 and u16.
+use Prim.Native.Nat.{ℕ}
+use mathlib.Core.Bool.{Bool, true, false, not, _&&_, _||_}
+use mathlib.Core.List.{List, [], _∷_}
+use lib.Dec.{eqb, leb, ltb}
+use lib.ListN.{drop}
+use Rattle.sheet.specs.declared.Form.{Form}
+use Rattle.sheet.specs.Edition.{Edition}
+use Rattle.sheet.specs.Form.{fits, lines-allowed, spacing-allowed}
+use Rattle.printer.specs.declared.Begun.{Begun}
+use Rattle.printer.specs.declared.Begun.the-variants.{Nowhere, At}
+use Rattle.printer.specs.declared.Head.{Head}
+use Rattle.printer.specs.declared.Pending.{Pending}
+use Rattle.printer.specs.declared.Pending.the-variants.{Nothing, Escape, Tabs, Reset, Select, SelectLow, CountHigh, CountLow, AddressHigh, AddressLow, Payload}
+use Rattle.printer.specs.declared.Printer.{Printer}
+
+-- where the pending command began: the place of its first byte
+unfoldable pub begun : Pending → Begun
+begun Nothing = Nowhere
+begun (Escape place) = At place
+begun (Tabs place) = At place
+begun (Reset place) = At place
+begun (Select place) = At place
+begun (SelectLow place high) = At place
+begun (CountHigh place) = At place
+begun (CountLow place high) = At place
+begun (AddressHigh place count) = At place
+begun (AddressLow place count high) = At place
+begun (Payload place load) = At place
+
+-- L and the spacing are in range
+unfoldable pub form-sound : Edition → Form → Bool
+form-sound e f = lines-allowed e (f .lines) && spacing-allowed (f .spacing)
+
+-- none of some lines has a tab
+unfoldable pub untabbed : List Bool → Bool
+untabbed [] = true
+untabbed (t ∷ ts) = not t && untabbed ts
+
+-- tabs lie on lines 1 to L
+unfoldable pub tabs-sound : Form → List Bool → Bool
+tabs-sound f tabs = untabbed (drop (f .lines) tabs)
+
+-- no more payload is taken than counted
+unfoldable pub load-sound : Pending → Bool
+load-sound Nothing = true
+load-sound (Escape place) = true
+load-sound (Tabs place) = true
+load-sound (Reset place) = true
+load-sound (Select place) = true
+load-sound (SelectLow place high) = true
+load-sound (CountHigh place) = true
+load-sound (CountLow place high) = true
+load-sound (AddressHigh place count) = true
+load-sound (AddressLow place count high) = true
+load-sound (Payload place load) = leb (load .paid) (load .count)
+
+-- a started command's place is below the job length
+unfoldable pub place-sound : ℕ → Begun → Bool
+place-sound job Nowhere = true
+place-sound job (At place) = ltb place job
+
+-- a fresh line is at column 0 and no plot line
+unfoldable pub fresh-sound : Head → Bool
+fresh-sound h = not (h .fresh) || (eqb (h .column) 0 && not (h .plotted))
+
+-- no command is begun but a lone ESC
+unfoldable pub lone-escape : Pending → Bool
+lone-escape Nothing = true
+lone-escape (Escape place) = true
+lone-escape (Tabs place) = false
+lone-escape (Reset place) = false
+lone-escape (Select place) = false
+lone-escape (SelectLow place high) = false
+lone-escape (CountHigh place) = false
+lone-escape (CountLow place high) = false
+lone-escape (AddressHigh place count) = false
+lone-escape (AddressLow place count high) = false
+lone-escape (Payload place load) = false
+
+-- plot mode holds only on a plot line, with no command begun but a lone ESC
+unfoldable pub plot-sound : Head → Pending → Bool
+plot-sound h q = not (h .plotting) || (h .plotted && lone-escape q)
+
+-- a state is sound
+unfoldable pub sound : Edition → Printer → Bool
+sound e p =
+    form-sound e (p .form)
+    && fits (p .form) (p .head .row)
+    && leb (p .head .column) (e .width (p .style .pitch))
+    && tabs-sound (p .form) (p .tabs)
+    && load-sound (p .pending)
+    && place-sound (p .job) (begun (p .pending))
+    && fresh-sound (p .head)
+    && plot-sound (p .head) (p .pending)

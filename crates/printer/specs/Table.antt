@@ -1,0 +1,128 @@
+-- The proved table, cases A to L. Document 01, "The proved table".
+use Prim.Native.Nat.{ℕ}
+use mathlib.Core.Bool.{Bool, true, false, not}
+use mathlib.Core.List.{List, [], _∷_, _++_, map}
+use mathlib.Core.Path.{_≡_}
+use lib.ListN.{drop, getD, replicate, take}
+use Rattle.sheet.specs.Edition.{lp2}
+use Rattle.printer.specs.declared.Closing.{Closing}
+use Rattle.printer.specs.declared.Closing.the-variants.{Clean}
+use Rattle.printer.specs.Bytes.{run}
+use Rattle.printer.specs.Closing.{closing}
+use Rattle.printer.specs.Commands.{reading}
+use Rattle.printer.specs.Machine.{Machine, opened, with-head}
+use Rattle.printer.specs.Numbers.{Report, told-report}
+use Rattle.printer.specs.Steps.{Outcome}
+
+-- where to look at the machine that a job leaves
+pub data Look : Type 0 where
+  row : Look
+  position : Look  -- the current column
+  column : ℕ → Look  -- a column of the line store
+  stored : ℕ → ℕ → Look  -- some bytes of the download store: the first of them, and how many
+  closed : Look  -- what closing answers
+
+-- what is seen there
+pub data Seen : Type 0 where
+  number : ℕ → Seen
+  bytes : List ℕ → Seen
+  answer : Closing → Seen
+
+unfoldable pub look-at : Look → Machine → Seen
+look-at row m = number (m .printer .head .row .0)
+look-at position m = number (m .printer .head .column)
+look-at (column c) m = number (getD (m .line) c 0)
+look-at (stored from count) m = bytes (take count (drop from (m .store)))
+look-at closed m = answer (closing lp2 (m .printer))
+
+pub record Sight : Type 0 where
+  pub look : Look
+  pub finds : Seen
+
+abbrev pub sees : Look → Seen → Sight
+sees l s = record { look = l; finds = s }
+
+-- a case: where it starts, the job, what is told of it and what is then seen
+pub record Case : Type 0 where
+  pub start : Machine
+  pub job : List ℕ
+  pub told : List Report
+  pub seen : List Sight
+
+-- L = 66, 6 an inch, just opened
+abbrev pub start : Machine
+start = opened lp2 (record { lines = 66; spacing = 6 })
+
+-- the same on another row, at the beginning of a text line or of a plot line that plot mode has left
+abbrev pub on-row : ℕ → Bool → Machine
+on-row r plotted = with-head (record { row = record { 0 = r }; column = 0; fresh = not plotted; plotted = plotted; plotting = false }) start
+
+abbrev pub note-at : ℕ → ℕ → Report
+note-at n place = record { number = 2; values = n ∷ place ∷ [] }
+
+abbrev pub form-finished : Report
+form-finished = record { number = 1; values = [] }
+
+-- LP2's "B": the sixteen bytes of its glyph, and its download with some checksum
+abbrev pub glyph-b : List ℕ
+glyph-b = 0o000 ∷ 0o000 ∷ 0o001 ∷ 0o004 ∷ 0o000 ∷ 0o370 ∷ 0o001 ∷ 0o004 ∷ 0o000 ∷ 0o040 ∷ 0o001 ∷ 0o004 ∷ 0o000 ∷ 0o040 ∷ 0o000 ∷ 0o330 ∷ []
+
+abbrev pub download-b : ℕ → List ℕ
+download-b checksum = 0o033 ∷ 0o131 ∷ 0o000 ∷ 0o020 ∷ 0o014 ∷ 0o040 ∷ (glyph-b ++ (checksum ∷ []))
+
+-- the cases, each behind its letter
+unfoldable pub table : List Case
+table =
+    -- A
+    record { start = start; job = []; told = []; seen = sees closed (answer Clean) ∷ [] }
+    -- B
+    ∷ record { start = start; job = replicate 133 0x41; told = note-at 44 132 ∷ []; seen = [] }
+    -- C
+    ∷ record { start = start; job = 0x1b ∷ 0x3c ∷ replicate 67 0x41; told = note-at 44 68 ∷ []; seen = [] }
+    -- D
+    ∷ record { start = start; job = 0x1b ∷ 0x64 ∷ 0x7f ∷ []; told = []; seen = sees (column 0) (number 127) ∷ [] }
+    -- E
+    ∷ record { start = start; job = 0x1b ∷ 0x64 ∷ 0x1b ∷ 0x1b ∷ []; told = []; seen = sees position (number 1) ∷ sees (column 0) (number 27) ∷ [] }
+    -- F
+    ∷ record { start = start; job = 0x1b ∷ 0x46 ∷ 0x0a ∷ 0x00 ∷ 0x0b ∷ []; told = []; seen = sees row (number 108) ∷ [] }
+    -- G
+    ∷ record { start = start; job = 0x0b ∷ []; told = []; seen = sees row (number 0) ∷ [] }
+    -- H
+    ∷ record { start = start; job = download-b 0o341; told = []; seen = sees (stored 1056 16) (bytes glyph-b) ∷ [] }
+    ∷ record { start = start; job = download-b 0o340; told = note-at 45 0 ∷ []; seen = [] }
+    -- I
+    ∷ record { start = on-row 780 false; job = 0x0a ∷ []; told = form-finished ∷ []; seen = sees row (number 0) ∷ [] }
+    ∷ record { start = on-row 768 false; job = 0x0a ∷ []; told = []; seen = sees row (number 780) ∷ [] }
+    -- J
+    ∷ record { start = on-row 776 true; job = 0x0a ∷ []; told = []; seen = sees row (number 783) ∷ [] }
+    ∷ record { start = on-row 777 true; job = 0x0a ∷ []; told = form-finished ∷ []; seen = [] }
+    -- K
+    ∷ record { start = start; job = 0x1b ∷ 0x64 ∷ 0x01 ∷ 0x1b ∷ 0x65 ∷ 0x0a ∷ []; told = []; seen = sees row (number 7) ∷ [] }
+    ∷ record { start = start; job = 0x1b ∷ 0x64 ∷ 0x01 ∷ 0x1b ∷ 0x65 ∷ 0x0d ∷ 0x0a ∷ []; told = []; seen = sees row (number 12) ∷ [] }
+    -- L
+    ∷ record { start = start; job = 0x1b ∷ 0x30 ∷ []; told = note-at 42 0 ∷ []; seen = [] }
+    ∷ []
+
+-- what is told of a job, and what is then seen
+pub record Findings : Type 0 where
+  pub told : List Report
+  pub seen : List Seen
+
+-- what a case says
+unfoldable pub stated : Case → Findings
+stated c = record { told = c .told; seen = map (λ (s : Sight). s .finds) (c .seen) }
+
+-- what a way of reading a job makes of a case
+unfoldable pub found : (List ℕ → Machine → Outcome) → Case → Findings
+found read c =
+    let o : Outcome = read (c .job) (c .start) in
+    record { told = map told-report (o .told); seen = map (λ (s : Sight). look-at (s .look) (o .machine)) (c .seen) }
+
+-- a way of reading finds in each case of the table what the case says
+abbrev pub Meets : (List ℕ → Machine → Outcome) → Type 0
+Meets read = map (found read) table ≡ map stated table
+
+-- both readings do, whatever the font
+pub record Holds : Type 0 where
+  pub by-bytes : (font : List ℕ) → Meets (run lp2 font)
+  pub by-commands : (font : List ℕ) → Meets (reading lp2 font)

@@ -1,0 +1,60 @@
+-- The line terminators. Document 01, "Bytes outside plot mode".
+use Prim.Native.Nat.{ℕ, _+_}
+use mathlib.Core.Bool.{Bool, cond}
+use mathlib.Core.List.{List, [], _∷_}
+use lib.ListN.{drop}
+use Rattle.sheet.specs.declared.Line.{Line}
+use Rattle.sheet.specs.declared.Row.{Row}
+use Rattle.sheet.specs.Dots.{struck}
+use Rattle.sheet.specs.Edition.{Edition}
+use Rattle.sheet.specs.Form.{empty-line, first-row, fits, line-of, lower, rows-per-line, top}
+use Rattle.printer.specs.declared.Stop.{Stop}
+use Rattle.printer.specs.declared.Stop.the-variants.{Tabbed, Untabbed}
+use Rattle.printer.specs.Machine.{Machine, fresh-head, with-head, with-line, with-page}
+use Rattle.printer.specs.Steps.{Step, finished, guard, quiet}
+
+-- the line that the head stands in
+abbrev pub current-line : Machine → Line
+current-line m = line-of (m .printer .form) (m .printer .head .row)
+
+-- the guard: a terminator that meets r + 9 > L × R does nothing
+unfoldable pub guarded : Machine → Step → Step
+guarded m s = cond (fits (m .printer .form) (m .printer .head .row)) s (guard m)
+
+-- the first tabbed line of those whose tabs are given, the first of them line n
+unfoldable pub first-tab : ℕ → List Bool → Stop
+first-tab n [] = Untabbed
+first-tab n (t ∷ ts) = cond t (Tabbed (record { 0 = n })) (first-tab (n + 1) ts)
+
+module _ (e : Edition) where
+  -- the line struck at the current row, its store zeroed, and the head on a fresh line at row r
+  unfoldable pub strike : Row → Machine → Machine
+  strike r m =
+      with-head (fresh-head r)
+      (with-line (empty-line e) (with-page (struck e (m .page) (m .line) (m .printer .head .row) (m .printer .style .pitch)) m))
+
+  -- 0A: the row grows by R, or by 7 on a plot line; if then r + 9 > L × R, form finished, row 0
+  unfoldable pub newline : Machine → Step
+  newline m =
+      let r : Row = lower (cond (m .printer .head .plotted) 7 (rows-per-line (m .printer .form .spacing))) (m .printer .head .row) in
+      guarded m (cond (fits (m .printer .form) r) (quiet (strike r m)) (finished (strike top m)))
+
+  -- 0C: form finished, row 0
+  unfoldable pub form-feed : Machine → Step
+  form-feed m = guarded m (finished (strike top m))
+
+  -- 0D: no move
+  unfoldable pub carriage-return : Machine → Step
+  carriage-return m = guarded m (quiet (strike (m .printer .head .row) m))
+
+  -- To the next tabbed line below. If tabs stand but none below: form finished, then the lowest-numbered tabbed line. With no tab: as 0D.
+  unfoldable pub tab-to : Stop → Stop → Machine → Step
+  tab-to (Tabbed n) lowest m = quiet (strike (first-row (m .printer .form) n) m)
+  tab-to Untabbed (Tabbed n) m = finished (strike (first-row (m .printer .form) n) m)
+  tab-to Untabbed Untabbed m = quiet (strike (m .printer .head .row) m)
+
+  -- 0B: by the tabs below the current line, and by all of them
+  unfoldable pub vertical-tab : Machine → Step
+  vertical-tab m =
+      let n : ℕ = current-line m .0 in
+      guarded m (tab-to (first-tab (n + 1) (drop n (m .printer .tabs))) (first-tab 1 (m .printer .tabs)) m)

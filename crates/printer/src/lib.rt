@@ -1,0 +1,98 @@
+// The printer: its state, what it can't obey, and what comes of a byte.
+use sheet::Form;
+use sheet::Line;
+use sheet::Pitch;
+use sheet::Row;
+
+// Where the head stands, and what the line in progress is. `plotted`: a plot line; `plotting`: plot mode.
+pub struct Head {
+    pub row: Row,
+    pub column: usize,
+    pub fresh: bool,
+    pub plotted: bool,
+    pub plotting: bool,
+}
+
+// How characters are entered: the pitch and the features.
+pub struct Style {
+    pub pitch: Pitch,
+    pub elongated: bool,
+    pub underscore: bool,
+    pub downloaded: bool,
+}
+
+// A download whose payload is coming: how much was announced, for which address, how much is there and what it sums to.
+pub struct Load {
+    pub count: u16,
+    pub address: u16,
+    pub paid: u16,
+    pub sum: u8,
+}
+
+// The command whose last byte has not come, with the place of its first byte and all that is needed of its bytes so far.
+pub enum Pending {
+    Nothing,
+    Escape(u32),
+    Tabs(u32),
+    Reset(u32),
+    Select(u32),
+    SelectLow(u32, u8),
+    CountHigh(u32),
+    CountLow(u32, u8),
+    AddressHigh(u32, u16),
+    AddressLow(u32, u16, u8),
+    Payload(u32, Load),
+}
+
+// The state. `job` counts the bytes of the job so far; `tabs` has a place for each line that a form may have, line 1 first.
+pub struct Printer {
+    pub form: Form,
+    pub job: u32,
+    pub pending: Pending,
+    pub head: Head,
+    pub style: Style,
+    pub tabs: [bool; 99],
+}
+
+// Where the command that is pending began.
+pub enum Begun {
+    Nowhere,
+    At(u32),
+}
+
+// The first of some lines that has a tab.
+pub enum Stop {
+    Tabbed(Line),
+    Untabbed,
+}
+
+// Why a byte or a command can't be obeyed.
+pub enum Fault {
+    UnknownCommand,
+    LineFull,
+    Checksum,
+    UnnamedControl,
+    HighByte,
+    OutOfTurn,
+    WrongBytes,
+    PlotLine,
+    DownloadRange,
+    TabLine,
+    IllFormed,
+}
+
+// What comes of a byte: nothing to tell, a finished form, a note with its fault and place, or a terminator past the form's end.
+pub enum Event {
+    Quiet,
+    Finished,
+    Noted(Fault, u32),
+    Guard,
+}
+
+// What closing answers: the state is unsound, a command is unfinished that began at a place, the line is unprinted, or the job is clean.
+pub enum Closing {
+    Refused,
+    Unfinished(u32),
+    Unprinted,
+    Clean,
+}

@@ -1,0 +1,58 @@
+-- The sizes of a form, and the rules that lead from a line to a row and back.
+use Prim.Native.Nat.{ℕ, _+_, _-_, _*_, _/_}
+use mathlib.Core.Bool.{Bool, cond, _&&_, _||_}
+use mathlib.Core.List.{List}
+use lib.Dec.{eqb, leb}
+use lib.ListN.{replicate}
+use Rattle.sheet.specs.declared.Form.{Form}
+use Rattle.sheet.specs.declared.Line.{Line}
+use Rattle.sheet.specs.declared.Row.{Row}
+use Rattle.sheet.specs.Edition.{Edition}
+
+-- a form has 1 line at least, and at most as many as the edition's longest
+unfoldable pub lines-allowed : Edition → ℕ → Bool
+lines-allowed e lines = leb 1 lines && leb lines (e .longest)
+
+-- 6 or 8 lines an inch
+unfoldable pub spacing-allowed : ℕ → Bool
+spacing-allowed spacing = eqb spacing 6 || eqb spacing 8
+
+-- R, the rows of a line: at 72 rows an inch, 12 where 6 lines stand in an inch and 9 where 8 do
+unfoldable pub rows-per-line : ℕ → ℕ
+rows-per-line spacing = cond (eqb spacing 6) 12 9
+
+-- L × R, the rows of a form
+unfoldable pub form-rows : Form → ℕ
+form-rows f = f .lines * rows-per-line (f .spacing)
+
+-- the bytes of a form's page
+unfoldable pub page-bytes : Edition → Form → ℕ
+page-bytes e f = form-rows f * e .bytes
+
+-- a page with no dot black
+unfoldable pub blank-page : Edition → Form → List ℕ
+blank-page e f = replicate (page-bytes e f) 0
+
+-- the line store with no wire set in any column
+unfoldable pub empty-line : Edition → List ℕ
+empty-line e = replicate (e .columns) 0
+
+-- the first row of a line
+unfoldable pub first-row : Form → Line → Row
+first-row f n = record { 0 = (n .0 - 1) * rows-per-line (f .spacing) }
+
+-- the line that a row lies in: 1 + r ÷ R, rounded down
+unfoldable pub line-of : Form → Row → Line
+line-of f r = record { 0 = 1 + r .0 / rows-per-line (f .spacing) }
+
+-- the row that stands some rows lower
+abbrev pub lower : ℕ → Row → Row
+lower n r = record { 0 = r .0 + n }
+
+-- the first row of a form
+abbrev pub top : Row
+top = record { 0 = 0 }
+
+-- the nine wires of a line struck at row r stay on the form: r + 9 ≤ L × R
+unfoldable pub fits : Form → Row → Bool
+fits f r = leb (r .0 + 9) (form-rows f)

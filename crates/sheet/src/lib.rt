@@ -1,0 +1,22 @@
+// The sheet: a form's lines, its rows of dots, and the positions in a row. Document 01, "The sheet".
+
+// A line of a form, counted from 1.
+pub struct Line(pub usize);
+
+// A row of dots of a form, counted from 0 at the top.
+pub struct Row(pub usize);
+
+// A position in a row of dots, counted from 0 at the left.
+pub struct Grid(pub usize);
+
+// A form: how many lines it has, and how many lines stand in an inch.
+pub struct Form {
+    pub lines: usize,
+    pub spacing: usize,
+}
+
+// How far apart the columns of a line stand.
+pub enum Pitch {
+    Normal,
+    Compressed,
+}
