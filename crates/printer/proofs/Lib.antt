@@ -1,2 +1,9 @@
 -- What is true of the printer.
 pub mod Table
+pub mod Appending
+pub mod Keeping
+pub mod Resuming
+pub mod TabLists
+pub mod Payloads
+pub mod Shorter
+pub mod Readings
