@@ -17,7 +17,7 @@ use Rattle.printer.specs.Alone.{alone, text-byte}
 use Rattle.printer.specs.Bytes.{act, first-byte, payload-byte, run, second-byte, step, tab-byte, text-escape}
 use Rattle.printer.specs.Commands.{Command, byte, escaped, loading, obey, resetting, selecting, set-tabs, tab-list}
 use Rattle.printer.specs.Downloads.{download}
-use Rattle.printer.specs.Escapes.{clear-tabs, escape, in-turn, reset, select, tab, tab-here, tab-item}
+use Rattle.printer.specs.Escapes.{after-reset, clear-tabs, escape, in-turn, reset, select, tab, tab-here, tab-item}
 use Rattle.printer.specs.Machine.{Machine, with-job}
 use Rattle.printer.specs.Plotting.{plot, plot-byte, plot-escape}
 use Rattle.printer.specs.Printing.{print}
@@ -69,7 +69,7 @@ module _ (e : Edition) {k : Kept} where
 
   -- a whole command
   pub obey-keeps : (font : List ℕ) (c : Command) (place : ℕ) (m : Machine) → kept m ≡ k → kept (obey e font c place m .machine) ≡ k
-  unfolding obey alone text-byte print guarded newline vertical-tab form-feed carriage-return strike plot-byte plot escape in-turn tab-here tab plot-escape clear-tabs reset select download
+  unfolding obey alone text-byte print guarded newline vertical-tab form-feed carriage-return strike plot-byte plot escape in-turn tab-here tab plot-escape clear-tabs after-reset reset select download
   obey-keeps font (byte b) place m h = search (tell-step-keeps, keeps-cond, tab-to-keeps) depth 20
   obey-keeps font (escaped b) place m h = search (tell-step-keeps, keeps-cond) depth 20
   obey-keeps font (tab-list ns) place m h = set-tabs-keeps ns _ (clear-tabs e m) h
@@ -91,7 +91,7 @@ tab-to-counts e below lowest m =
     (ap (λ (k : Kept). k .form) h, ap (λ (k : Kept). k .job) h)
 
 act-counts : (e : Edition) (font : List ℕ) (q : Pending) (b here : ℕ) (m : Machine) → Counts (m .printer .form) (m .printer .job) (act e font q b here m)
-unfolding act first-byte second-byte text-escape tab-byte payload-byte alone text-byte print guarded newline vertical-tab form-feed carriage-return strike plot-byte plot escape in-turn tab-here tab plot-escape clear-tabs reset select download tab-item
+unfolding act first-byte second-byte text-escape tab-byte payload-byte alone text-byte print guarded newline vertical-tab form-feed carriage-return strike plot-byte plot escape in-turn tab-here tab plot-escape clear-tabs after-reset reset select download tab-item
 act-counts e font Nothing b here m = search (counts-cond, tab-to-counts) depth 20
 act-counts e font (Escape place) b here m = search counts-cond depth 20
 act-counts e font (Tabs place) b here m = search counts-cond depth 20

@@ -7,3 +7,7 @@ pub mod TabLists
 pub mod Payloads
 pub mod Shorter
 pub mod Readings
+pub mod Soundness
+pub mod Ready
+pub mod SoundTabs
+pub mod StaysSound

@@ -65,12 +65,13 @@ plot-on m =
 unfoldable pub in-turn : ℕ → Machine → Machine → Step
 in-turn place m after = cond (m .printer .head .fresh) (quiet after) (noted OutOfTurn place m)
 
--- c 00: line dropped, tabs and features off, normal pitch, download store zeroed; the row stays. Another byte than 00: note 46
+-- the line dropped (store zeroed, column 0, no plot line), tabs and features off, normal pitch, download store zeroed; the row stays
+unfoldable pub after-reset : Edition → Machine → Machine
+after-reset e m = with-store empty-store (with-line (empty-line e) (with-style plain-style (with-head (fresh-head (m .printer .head .row)) (clear-tabs e m))))
+
+-- c 00: reset; another byte than 00: note 46
 unfoldable pub reset : Edition → ℕ → ℕ → Machine → Step
-reset e b place m =
-    cond (eqb b 0)
-    (quiet (with-store empty-store (with-line (empty-line e) (with-style plain-style (with-head (fresh-head (m .printer .head .row)) (clear-tabs e m))))))
-    (noted WrongBytes place m)
+reset e b place m = cond (eqb b 0) (quiet (after-reset e m)) (noted WrongBytes place m)
 
 -- N 04 00: downloaded glyphs; any other pair: note 46
 unfoldable pub select : ℕ → ℕ → ℕ → Machine → Step

@@ -16,7 +16,7 @@ use Rattle.printer.specs.declared.Pending.the-variants.{Nothing, Escape,
 use Rattle.printer.specs.declared.Printer.{Printer}
 
 -- where the pending command began: the place of its first byte
-unfoldable pub begun : Pending → Begun
+abbrev pub begun : Pending → Begun
 begun Nothing = Nowhere
 begun (Escape place) = At place
 begun (Tabs place) = At place
@@ -43,7 +43,7 @@ unfoldable pub tabs-sound : Form → List Bool → Bool
 tabs-sound f tabs = untabbed (drop (f .lines) tabs)
 
 -- no more payload is taken than counted
-unfoldable pub load-sound : Pending → Bool
+abbrev pub load-sound : Pending → Bool
 load-sound Nothing = true
 load-sound (Escape place) = true
 load-sound (Tabs place) = true
@@ -57,7 +57,7 @@ load-sound (AddressLow place count high) = true
 load-sound (Payload place load) = leb (load .paid) (load .count)
 
 -- a started command's place is below the job length
-unfoldable pub place-sound : ℕ → Begun → Bool
+abbrev pub place-sound : ℕ → Begun → Bool
 place-sound job Nowhere = true
 place-sound job (At place) = ltb place job
 
@@ -66,7 +66,7 @@ unfoldable pub fresh-sound : Head → Bool
 fresh-sound h = not (h .fresh) || (eqb (h .column) 0 && not (h .plotted))
 
 -- no command is begun but a lone ESC
-unfoldable pub lone-escape : Pending → Bool
+abbrev pub lone-escape : Pending → Bool
 lone-escape Nothing = true
 lone-escape (Escape place) = true
 lone-escape (Tabs place) = false

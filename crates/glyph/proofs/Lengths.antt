@@ -1,0 +1,39 @@
+-- Entering a character keeps the length of the line store.
+use Prim.Native.Nat.{ℕ, zero, suc, _+_, _*_, _/_}
+use mathlib.Core.Bool.{Bool, true, false, cond}
+use mathlib.Core.List.{List}
+use mathlib.Core.Path.{_≡_, refl, _∙_}
+use lib.ListN.{length, length-set}
+use Rattle.glyph.specs.Entering.{cell, enter, enter-glyph, enter-narrow, enter-wide, or-in, underline}
+
+-- either of two lists of one length
+length-cond : (t : Bool) (a b : List ℕ) (n : ℕ) → length a ≡ n → length b ≡ n → length (cond t a b) ≡ n
+length-cond true a b n h k = h
+length-cond false a b n h k = k
+
+pub length-or-in : (at wires : ℕ) (line : List ℕ) → length (or-in at wires line) ≡ length line
+unfolding or-in
+length-or-in at wires line = length-set line at _
+
+module _ (glyphs : List ℕ) (n at : ℕ) (line : List ℕ) where
+  length-narrow : (k : ℕ) → length (enter-narrow k glyphs n at line) ≡ length line
+  unfolding enter-narrow
+  length-narrow zero = refl
+  length-narrow (suc k) = length-or-in _ _ _ ∙ length-narrow k
+
+  length-wide : (k : ℕ) → length (enter-wide k glyphs n at line) ≡ length line
+  unfolding enter-wide
+  length-wide zero = refl
+  length-wide (suc k) = length-or-in _ _ _ ∙ length-or-in _ _ _ ∙ length-wide k
+
+length-underline : (k at : ℕ) (line : List ℕ) → length (underline k at line) ≡ length line
+unfolding underline
+length-underline zero at line = refl
+length-underline (suc k) at line = length-or-in _ _ _ ∙ length-underline k at line
+
+pub length-enter : (glyphs : List ℕ) (n : ℕ) (elongated underscore : Bool) (at : ℕ) (line : List ℕ) → length (enter glyphs n elongated underscore at line) ≡ length line
+unfolding enter enter-glyph
+length-enter glyphs n elongated underscore at line =
+    let inked : List ℕ = enter-glyph glyphs n elongated at line in
+    let h : length inked ≡ length line = length-cond elongated _ _ _ (length-wide glyphs n at line 7) (length-narrow glyphs n at line 7) in
+    length-cond underscore _ _ _ (length-underline (cell elongated / 2) at inked ∙ h) h

@@ -1,0 +1,2 @@
+-- What is true of glyphs.
+pub mod Lengths

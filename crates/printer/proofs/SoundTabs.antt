@@ -1,0 +1,44 @@
+-- Tabs set, cleared and looked for stay on lines of the form.
+use Prim.Native.Nat.{ℕ, zero, suc, _+_, _≤_, _<_}
+use mathlib.Core.Bool.{Bool, true, false}
+use mathlib.Core.List.{List, [], _∷_}
+use mathlib.Core.Path.{_≡_, refl, subst}
+use native.Mathlib.Omega.{arith}
+use borrow.Author.Tests.{eqb-false, eqb-true}
+use lib.Dec.{T, eqb}
+use lib.ListN.{getD, replicate, set}
+use lib.Seq.{getD-set-other}
+use Rattle.sheet.specs.Edition.{Edition}
+use Rattle.printer.specs.declared.Stop.{Stop}
+use Rattle.printer.specs.declared.Stop.the-variants.{Tabbed, Untabbed}
+use Rattle.printer.specs.Machine.{no-tabs}
+use Rattle.printer.specs.Terminators.{first-tab}
+use Rattle.printer.proofs.Soundness.{SoundTabs}
+
+getD-clear : (n i : ℕ) → getD (replicate n false) i false ≡ false
+getD-clear zero i = refl
+getD-clear (suc n) zero = refl
+getD-clear (suc n) (suc i) = getD-clear n i
+
+pub tabs-cleared : (e : Edition) (lines : ℕ) → SoundTabs lines (no-tabs e)
+unfolding no-tabs
+tabs-cleared e lines = record { inside = λ i t. absurd (subst T (getD-clear (e .longest) i) t) }
+
+module _ {lines : ℕ} {tabs : List Bool} (h : SoundTabs lines tabs) where
+  set-inside : (on : Bool) (k : ℕ) → k < lines → (i : ℕ) (s : Bool) → eqb i k ≡ s → T (getD (set tabs k on) i false) → i < lines
+  set-inside on k l i true q t = omega (arith, eqb-true i k q)
+  set-inside on k l i false q t = h .inside i (subst T (getD-set-other tabs k i on false (eqb-false i k q)) t)
+
+  pub tab-set : (on : Bool) (k : ℕ) → k < lines → SoundTabs lines (set tabs k on)
+  tab-set on k l = record { inside = λ i t. set-inside on k l i (eqb i k) refl t }
+
+-- a stop is a line of the form
+abbrev pub Inside : ℕ → Stop → Type 0
+Inside lines (Tabbed n) = (1 ≤ n .0) × (n .0 ≤ lines)
+Inside lines Untabbed = Unit {0}
+
+pub first-tab-inside : (lines n : ℕ) (tabs : List Bool) → 1 ≤ n → ((i : ℕ) → T (getD tabs i false) → n + i ≤ lines) → Inside lines (first-tab n tabs)
+unfolding first-tab
+first-tab-inside lines n [] l h = tt
+first-tab-inside lines n (true ∷ ts) l h = (l, omega (arith, h 0 tt))
+first-tab-inside lines n (false ∷ ts) l h = first-tab-inside lines (n + 1) ts (omega arith) (λ i t. omega (arith, h (suc i) t))

@@ -1,0 +1,204 @@
+-- What the sound test says, as facts.
+use Prim.Native.Nat.{ℕ, zero, suc, _+_, _-_, _≤_, _<_}
+use mathlib.Core.Bool.{Bool, true, false, not, _&&_, _||_, and-eq-true-iff, true≢false}
+use mathlib.Core.List.{List, [], _∷_}
+use mathlib.Core.Logic.{_↔_}
+use mathlib.Core.Path.{_≡_, refl, sym, ap, subst, _∙_}
+use native.Mathlib.Omega.{arith}
+use borrow.Author.Tests.{eq-eqb, eqb-true, le-leb, leb-true, lt-ltb, ltb-false, ltb-true, not-true}
+use lib.Dec.{T, eqb, leb, ltb}
+use lib.ListN.{drop, getD}
+use lib.Seq.{getD-drop}
+use Rattle.sheet.specs.declared.Form.{Form}
+use Rattle.sheet.specs.Edition.{Edition}
+use Rattle.sheet.specs.Form.{fits, form-rows, lines-allowed, spacing-allowed}
+use Rattle.printer.specs.declared.Begun.{Begun}
+use Rattle.printer.specs.declared.Begun.the-variants.{Nowhere, At}
+use Rattle.printer.specs.declared.Head.{Head}
+use Rattle.printer.specs.declared.Pending.{Pending}
+use Rattle.printer.specs.declared.Pending.the-variants.{Nothing, Escape, Tabs, Reset, Select, SelectLow, CountHigh, CountLow, AddressHigh, AddressLow, Payload}
+use Rattle.printer.specs.declared.Printer.{Printer}
+use Rattle.printer.specs.Sound.{begun, form-sound, fresh-sound, load-sound, lone-escape, place-sound, plot-sound, sound, tabs-sound, untabbed}
+
+pub record SoundForm (e : Edition) (f : Form) : Type 0 where
+  pub some : 1 ≤ f .lines
+  pub most : f .lines ≤ e .longest
+  pub spacing : spacing-allowed (f .spacing) ≡ true
+
+-- a head on a form, on a line of some columns
+pub record SoundHead (f : Form) (width : ℕ) (h : Head) : Type 0 where
+  pub row : h .row .0 + 9 ≤ form-rows f
+  pub column : h .column ≤ width
+  pub fresh : T (h .fresh) → (h .column ≡ 0) × (h .plotted ≡ false)
+
+-- each line with a tab is a line of the form
+pub record SoundTabs (lines : ℕ) (tabs : List Bool) : Type 0 where
+  pub inside : (i : ℕ) → T (getD tabs i false) → i < lines
+
+abbrev pub SoundLoad : Pending → Type 0
+SoundLoad Nothing = Unit {0}
+SoundLoad (Escape place) = Unit {0}
+SoundLoad (Tabs place) = Unit {0}
+SoundLoad (Reset place) = Unit {0}
+SoundLoad (Select place) = Unit {0}
+SoundLoad (SelectLow place high) = Unit {0}
+SoundLoad (CountHigh place) = Unit {0}
+SoundLoad (CountLow place high) = Unit {0}
+SoundLoad (AddressHigh place count) = Unit {0}
+SoundLoad (AddressLow place count high) = Unit {0}
+SoundLoad (Payload place load) = load .paid ≤ load .count
+
+abbrev pub SoundPlace : ℕ → Begun → Type 0
+SoundPlace job Nowhere = Unit {0}
+SoundPlace job (At place) = place < job
+
+abbrev pub SoundPlot : Head → Pending → Type 0
+SoundPlot h q = T (h .plotting) → (h .plotted ≡ true) × (lone-escape q ≡ true)
+
+-- the facts of a sound state
+pub record Sound (e : Edition) (p : Printer) : Type 0 where
+  pub form : SoundForm e (p .form)
+  pub head : SoundHead (p .form) (e .width (p .style .pitch)) (p .head)
+  pub tabs : SoundTabs (p .form .lines) (p .tabs)
+  pub load : SoundLoad (p .pending)
+  pub place : SoundPlace (p .job) (begun (p .pending))
+  pub plot : SoundPlot (p .head) (p .pending)
+
+-- Each test says its fact.
+form-facts : (e : Edition) (f : Form) → form-sound e f ≡ true → SoundForm e f
+unfolding form-sound lines-allowed
+form-facts e f q =
+    let a = and-eq-true-iff _ _ .0 q in
+    let b = and-eq-true-iff _ _ .0 (a .0) in
+    record { some = leb-true _ _ (b .0); most = leb-true _ _ (b .1); spacing = a .1 }
+
+form-tested : (e : Edition) (f : Form) → SoundForm e f → form-sound e f ≡ true
+unfolding form-sound lines-allowed
+form-tested e f h = rw (le-leb 1 (f .lines) (h .some), le-leb (f .lines) (e .longest) (h .most), h .spacing)
+
+untabbed-facts : (ts : List Bool) → untabbed ts ≡ true → (i : ℕ) → getD ts i false ≡ false
+unfolding untabbed
+untabbed-facts [] q i = refl
+untabbed-facts (true ∷ ts) q i = absurd (true≢false (sym q))
+untabbed-facts (false ∷ ts) q zero = refl
+untabbed-facts (false ∷ ts) q (suc i) = untabbed-facts ts q i
+
+untabbed-tested : (ts : List Bool) → ((i : ℕ) → T (getD ts i false) → ⊥) → untabbed ts ≡ true
+unfolding untabbed
+untabbed-tested [] h = refl
+untabbed-tested (true ∷ ts) h = absurd (h 0 tt)
+untabbed-tested (false ∷ ts) h = untabbed-tested ts (λ i t. h (suc i) t)
+
+module _ (f : Form) (tabs : List Bool) where
+  tab-inside : tabs-sound f tabs ≡ true → (i : ℕ) → T (getD tabs i false) → i < f .lines
+  unfolding tabs-sound
+  tab-inside q i t = go (ltb i (f .lines)) refl
+    where
+      go : (b : Bool) → ltb i (f .lines) ≡ b → i < f .lines
+      go true r = ltb-true _ _ r
+      go false r =
+          let s : f .lines + (i - f .lines) ≡ i = omega (arith, ltb-false) in
+          absurd (subst T (sym (ap (λ (k : ℕ). getD tabs k false) s) ∙ sym (getD-drop (f .lines) tabs (i - f .lines) false) ∙ untabbed-facts (drop (f .lines) tabs) q (i - f .lines)) t)
+
+  tabs-facts : tabs-sound f tabs ≡ true → SoundTabs (f .lines) tabs
+  tabs-facts q = record { inside = tab-inside q }
+
+  tabs-tested : SoundTabs (f .lines) tabs → tabs-sound f tabs ≡ true
+  unfolding tabs-sound
+  tabs-tested h = untabbed-tested _ (λ i t. omega (arith, h .inside (f .lines + i) (rw getD-drop at t)))
+
+-- a condition of a test that holds where a flag is set
+if-flag : (b c : Bool) → not b || c ≡ true → T b → c ≡ true
+if-flag true c q t = q
+
+flag-if : (b c : Bool) → (T b → c ≡ true) → not b || c ≡ true
+flag-if true c h = h tt
+flag-if false c h = refl
+
+module _ (h : Head) where
+  fresh-facts : fresh-sound h ≡ true → T (h .fresh) → (h .column ≡ 0) × (h .plotted ≡ false)
+  unfolding fresh-sound
+  fresh-facts q t =
+      let a = and-eq-true-iff _ _ .0 (if-flag (h .fresh) _ q t) in
+      (eqb-true _ _ (a .0), not-true _ (a .1))
+
+  fresh-tested : (T (h .fresh) → (h .column ≡ 0) × (h .plotted ≡ false)) → fresh-sound h ≡ true
+  unfolding fresh-sound
+  fresh-tested k = flag-if (h .fresh) _ (λ t. rw (eq-eqb (h .column) 0 (k t .0), k t .1))
+
+  plot-facts : (q : Pending) → plot-sound h q ≡ true → SoundPlot h q
+  unfolding plot-sound
+  plot-facts q r t = and-eq-true-iff _ _ .0 (if-flag (h .plotting) _ r t)
+
+  plot-tested : (q : Pending) → SoundPlot h q → plot-sound h q ≡ true
+  unfolding plot-sound
+  plot-tested q k = flag-if (h .plotting) _ (λ t. and-eq-true-iff _ _ .1 (k t))
+
+load-facts : (q : Pending) → load-sound q ≡ true → SoundLoad q
+load-facts Nothing r = tt
+load-facts (Escape place) r = tt
+load-facts (Tabs place) r = tt
+load-facts (Reset place) r = tt
+load-facts (Select place) r = tt
+load-facts (SelectLow place high) r = tt
+load-facts (CountHigh place) r = tt
+load-facts (CountLow place high) r = tt
+load-facts (AddressHigh place count) r = tt
+load-facts (AddressLow place count high) r = tt
+load-facts (Payload place load) r = leb-true _ _ r
+
+load-tested : (q : Pending) → SoundLoad q → load-sound q ≡ true
+load-tested Nothing k = refl
+load-tested (Escape place) k = refl
+load-tested (Tabs place) k = refl
+load-tested (Reset place) k = refl
+load-tested (Select place) k = refl
+load-tested (SelectLow place high) k = refl
+load-tested (CountHigh place) k = refl
+load-tested (CountLow place high) k = refl
+load-tested (AddressHigh place count) k = refl
+load-tested (AddressLow place count high) k = refl
+load-tested (Payload place load) k = le-leb _ _ k
+
+place-facts : (job : ℕ) (b : Begun) → place-sound job b ≡ true → SoundPlace job b
+place-facts job Nowhere r = tt
+place-facts job (At place) r = ltb-true _ _ r
+
+place-tested : (job : ℕ) (b : Begun) → SoundPlace job b → place-sound job b ≡ true
+place-tested job Nowhere k = refl
+place-tested job (At place) k = lt-ltb _ _ k
+
+-- a state is sound exactly where its facts hold
+module _ (e : Edition) (p : Printer) where
+  pub sound-facts : sound e p ≡ true → Sound e p
+  unfolding sound fits
+  sound-facts q =
+      let a₇ = and-eq-true-iff _ _ .0 q in
+      let a₆ = and-eq-true-iff _ _ .0 (a₇ .0) in
+      let a₅ = and-eq-true-iff _ _ .0 (a₆ .0) in
+      let a₄ = and-eq-true-iff _ _ .0 (a₅ .0) in
+      let a₃ = and-eq-true-iff _ _ .0 (a₄ .0) in
+      let a₂ = and-eq-true-iff _ _ .0 (a₃ .0) in
+      let a₁ = and-eq-true-iff _ _ .0 (a₂ .0) in
+      record {
+        form = form-facts e (p .form) (a₁ .0);
+        head = record { row = leb-true _ _ (a₁ .1); column = leb-true _ _ (a₂ .1); fresh = fresh-facts (p .head) (a₆ .1) };
+        tabs = tabs-facts (p .form) (p .tabs) (a₃ .1);
+        load = load-facts (p .pending) (a₄ .1);
+        place = place-facts (p .job) (begun (p .pending)) (a₅ .1);
+        plot = plot-facts (p .head) (p .pending) (a₇ .1);
+      }
+
+  pub facts-sound : Sound e p → sound e p ≡ true
+  unfolding sound fits
+  facts-sound h =
+      rw (
+        form-tested e (p .form) (h .form),
+        le-leb _ _ (h .head .row),
+        le-leb _ _ (h .head .column),
+        tabs-tested (p .form) (p .tabs) (h .tabs),
+        load-tested (p .pending) (h .load),
+        place-tested (p .job) (begun (p .pending)) (h .place),
+        fresh-tested (p .head) (h .head .fresh),
+      )
+      (plot-tested (p .head) (p .pending) (h .plot))

@@ -1,0 +1,63 @@
+-- The lines of a form and its rows, and the lengths of a blank page and an empty line.
+use Prim.Native.Nat.{ℕ, suc, _+_, _-_, _*_, _/_, _≤_, _<_}
+use mathlib.Core.Path.{_≡_, ap}
+use mathlib.Core.Bool.{Bool, true, false, cond}
+use native.Mathlib.Omega.{arith}
+use native.Mathlib.Nat.{mul-le-mul-right, div-lt-iff-lt-mul, mul-div-cancel, zero-mul}
+use lib.Dec.{eqb}
+use lib.ListN.{length, length-replicate}
+use borrow.Author.Tests.{leb-true, le-leb}
+use Rattle.sheet.specs.declared.Form.{Form}
+use Rattle.sheet.specs.declared.Line.{Line}
+use Rattle.sheet.specs.declared.Row.{Row}
+use Rattle.sheet.specs.Edition.{Edition}
+use Rattle.sheet.specs.Form.{blank-page, empty-line, first-row, fits, form-rows, line-of, page-bytes, rows-per-line, top}
+
+-- a line has nine rows at least, one for each wire
+pub nine-rows : (spacing : ℕ) → 9 ≤ rows-per-line spacing
+unfolding rows-per-line
+nine-rows spacing = either (eqb spacing 6)
+  where
+    either : (six : Bool) → 9 ≤ cond six 12 9
+    either true = omega arith
+    either false = omega arith
+
+-- the first row of a line lies in that line
+pub line-of-first-row : (f : Form) (n : Line) → 1 ≤ n .0 → line-of f (first-row f n) ≡ n
+unfolding line-of first-row
+line-of-first-row f n h =
+    let some : 0 < rows-per-line (f .spacing) = omega (arith, nine-rows (f .spacing)) in
+    let back : 1 + (n .0 - 1) * rows-per-line (f .spacing) / rows-per-line (f .spacing) ≡ n .0 = omega (arith, mul-div-cancel (n .0 - 1) some) in
+    ap (λ (k : ℕ). record { 0 = k }) back
+
+-- every line of a form can be struck at its first row
+pub line-fits : (f : Form) (n : Line) → 1 ≤ n .0 → n .0 ≤ f .lines → fits f (first-row f n) ≡ true
+unfolding fits form-rows first-row
+line-fits f n h l =
+    let rows : ℕ = rows-per-line (f .spacing) in
+    let below : suc (n .0 - 1) ≤ f .lines = omega arith in
+    le-leb ((n .0 - 1) * rows + 9) (f .lines * rows) (omega (arith, mul-le-mul-right rows below, nine-rows (f .spacing)))
+
+-- a form with a line at all can be struck at its first row
+pub top-fits : (f : Form) → 1 ≤ f .lines → fits f top ≡ true
+unfolding fits first-row
+top-fits f h = simp zero-mul at (line-fits f (record { 0 = 1 }) (omega arith) h)
+
+-- a row at which a line can be struck lies in a line of the form
+pub line-inside : (f : Form) (r : Row) → fits f r ≡ true → line-of f r .0 ≤ f .lines
+unfolding fits form-rows line-of
+line-inside f r h =
+    let rows : ℕ = rows-per-line (f .spacing) in
+    let some : 0 < rows = omega (arith, nine-rows (f .spacing)) in
+    let room : r .0 + 9 ≤ f .lines * rows = leb-true (r .0 + 9) (f .lines * rows) h in
+    omega (arith, div-lt-iff-lt-mul {k = rows} {x = r .0} {y = f .lines} some .1 (omega arith))
+
+-- a blank page has the bytes of its form
+pub length-blank-page : (e : Edition) (f : Form) → length (blank-page e f) ≡ page-bytes e f
+unfolding blank-page
+length-blank-page e f = length-replicate (page-bytes e f) 0
+
+-- an empty line fills the line store
+pub length-empty-line : (e : Edition) → length (empty-line e) ≡ e .columns
+unfolding empty-line
+length-empty-line e = length-replicate (e .columns) 0
