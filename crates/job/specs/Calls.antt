@@ -1,5 +1,5 @@
 -- Opening and feeding a job, for every state and all lent memory. Document 01, "Memory lent" and "What a call gives back".
-use Prim.Native.Nat.{ℕ, _+_}
+use Prim.Native.Nat.{ℕ, suc}
 use mathlib.Core.Bool.{cond}
 use mathlib.Core.List.{List, [], _∷_}
 use lib.Dec.{eqb, ltb}
@@ -67,7 +67,7 @@ stopped a m = record { answer = a; taken = 0; machine = m }
 
 -- the same with one byte more taken before it
 abbrev pub one-more : Feeding → Feeding
-one-more f = record { answer = f .answer; taken = f .taken + 1; machine = f .machine }
+one-more f = record { answer = f .answer; taken = suc (f .taken); machine = f .machine }
 
 -- the most bytes that a job may have
 abbrev pub limit : ℕ

@@ -2,7 +2,7 @@
 use Prim.Native.Nat.{ℕ, _+_}
 use mathlib.Core.Bool.{Bool, true, false, cond}
 use mathlib.Core.List.{List, [], _∷_}
-use mathlib.Core.Path.{_≡_, refl, ap}
+use mathlib.Core.Path.{_≡_, refl, ap, _∙_}
 use native.Mathlib.Omega.{arith}
 use lib.ListN.{length}
 use Rattle.sheet.specs.declared.Form.{Form}
@@ -11,6 +11,7 @@ use Rattle.printer.specs.declared.Event.{Event}
 use Rattle.printer.specs.declared.Event.the-variants.{Quiet, Finished, Noted, Guard}
 use Rattle.printer.specs.declared.Pending.{Pending}
 use Rattle.printer.specs.declared.Pending.the-variants.{Nothing, Escape, Tabs, Reset, Select, SelectLow, CountHigh, CountLow, AddressHigh, AddressLow, Payload}
+use Rattle.printer.specs.declared.Printer.{Printer}
 use Rattle.printer.specs.declared.Stop.{Stop}
 use Rattle.printer.specs.declared.Stop.the-variants.{Tabbed, Untabbed}
 use Rattle.printer.specs.Alone.{alone, text-byte}
@@ -109,9 +110,22 @@ pub step-counts : (e : Edition) (font : List ℕ) (b : ℕ) (m : Machine) → Co
 unfolding step
 step-counts e font b m = act-counts e font (m .printer .pending) b (m .printer .job) (with-job (m .printer .job + 1) m)
 
-tell-printer : (e : Edition) (v : Event) (m : Machine) → tell e v m .machine .printer ≡ m .printer
+pub tell-printer : (e : Edition) (v : Event) (m : Machine) → tell e v m .machine .printer ≡ m .printer
 unfolding tell
 tell-printer e Quiet m = refl
 tell-printer e Finished m = refl
 tell-printer e (Noted f place) m = refl
 tell-printer e Guard m = refl
+
+-- a run keeps the form and counts its bytes
+pub run-counts : (e : Edition) (font bs : List ℕ) (m : Machine)
+    → (run e font bs m .machine .printer .form ≡ m .printer .form) × (run e font bs m .machine .printer .job ≡ m .printer .job + length bs)
+unfolding run tell-step
+run-counts e font [] m = (refl, omega arith)
+run-counts e font (b ∷ bs) m =
+    let s : Step = step e font b m in
+    let n : Machine = tell e (s .event) (s .machine) .machine in
+    let k : Counts (m .printer .form) (m .printer .job + 1) s = step-counts e font b m in
+    let p : n .printer ≡ s .machine .printer = tell-printer e (s .event) (s .machine) in
+    (run-counts e font bs n .0 ∙ ap (λ (q : Printer). q .form) p ∙ k .0,
+    omega (arith, run-counts e font bs n .1, ap (λ (q : Printer). q .job) p, k .1))

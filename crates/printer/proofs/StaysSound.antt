@@ -314,3 +314,9 @@ opened-ready e f l s =
           };
       memory = record { page = length-blank-page e f; line = length-empty-line e; staging = length-empty-store; store = length-empty-store };
     }
+
+-- and a whole run ends in a machine that is ready
+pub run-ready : {e : Edition} (font bs : List ℕ) {m : Machine} → Ready e m → Ready e (run e font bs m .machine)
+unfolding run tell-step
+run-ready font [] h = h
+run-ready font (b ∷ bs) h = run-ready font bs (tell-ready _ (step-fine h font b .ready))

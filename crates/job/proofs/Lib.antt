@@ -1,0 +1,3 @@
+-- What is true of a job.
+pub mod Accepted
+pub mod Cutting
