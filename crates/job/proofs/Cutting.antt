@@ -83,8 +83,11 @@ module _ (e : Edition) (font : List ℕ) where
     unfolding delivery joined run
     delivery-run [] m r = refl
     delivery-run (piece ∷ pieces) m r =
-        rw (run-append e font piece (joined pieces) m, offer-run (suc (length piece)) piece m (omega arith) (room-front piece (joined pieces) m r),
-        delivery-run pieces (run e font piece m .machine) (room-back piece (joined pieces) m r))
+        rw (
+          run-append e font piece (joined pieces) m,
+          offer-run (suc (length piece)) piece m (omega arith) (room-front piece (joined pieces) m r),
+          delivery-run pieces (run e font piece m .machine) (room-back piece (joined pieces) m r),
+        )
 
 -- DEMAND 3. A job that is opened and not refused, of at most 4,294,967,295 bytes, however it is cut: the calls give what the reading of the whole
 -- job gives, the same forms and notes in the same order and the same machine, and the last answer is 0.

@@ -1,4 +1,5 @@
--- A job: what opening, feeding and closing it give back, for every argument, and the calling protocol.
+-- A job: what opening and feeding it give back, for every argument, the lines that a feeding strikes, and the calling protocol.
 pub mod Answers
 pub mod Calls
+pub mod Strikes
 pub mod Protocol

@@ -126,6 +126,7 @@ run-counts e font (b ∷ bs) m =
     let s : Step = step e font b m in
     let n : Machine = tell e (s .event) (s .machine) .machine in
     let k : Counts (m .printer .form) (m .printer .job + 1) s = step-counts e font b m in
-    let p : n .printer ≡ s .machine .printer = tell-printer e (s .event) (s .machine) in
-    (run-counts e font bs n .0 ∙ ap (λ (q : Printer). q .form) p ∙ k .0,
-    omega (arith, run-counts e font bs n .1, ap (λ (q : Printer). q .job) p, k .1))
+    let p : n .printer ≡ s .machine .printer = tell-printer e (s .event) (s .machine) in (
+      run-counts e font bs n .0 ∙ ap (λ (q : Printer). q .form) p ∙ k .0,
+      omega (arith, run-counts e font bs n .1, ap (λ (q : Printer). q .job) p, k .1),
+    )

@@ -11,3 +11,5 @@ pub mod Soundness
 pub mod Ready
 pub mod SoundTabs
 pub mod StaysSound
+pub mod Pages
+pub mod Dots

@@ -13,4 +13,5 @@ pub mod Downloads
 pub mod Alone
 pub mod Bytes
 pub mod Commands
+pub mod Strikes
 pub mod Table
