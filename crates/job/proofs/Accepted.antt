@@ -5,18 +5,14 @@ use mathlib.Core.List.{List}
 use mathlib.Core.Path.{_≡_, refl}
 use native.Mathlib.Omega.{arith}
 use borrow.Author.Tests.{eq-eqb, eqb-true}
-use lib.Dec.{eqb}
 use lib.ListN.{length}
 use Rattle.sheet.specs.declared.Form.{Form}
 use Rattle.sheet.specs.Edition.{Edition}
-use Rattle.sheet.specs.Form.{lines-allowed, page-bytes, spacing-allowed}
+use Rattle.sheet.specs.Form.{lines-allowed, spacing-allowed}
 use Rattle.printer.specs.Machine.{Machine, opened}
-use Rattle.printer.specs.Sound.{sound}
 use Rattle.printer.proofs.Ready.{Ready, Sized}
-use Rattle.printer.proofs.Soundness.{facts-sound, sound-facts}
-use Rattle.printer.proofs.StaysSound.{opened-ready}
-use Rattle.job.specs.declared.Answer.{Answer}
-use Rattle.job.specs.declared.Answer.the-variants.{Done, Misfit, WrongLines, WrongSpacing}
+use Rattle.printer.proofs.Soundness.{facts-sound}
+use Rattle.job.specs.declared.Answer.the-variants.{Done, WrongLines, WrongSpacing}
 use Rattle.job.specs.declared.Fit.{Fit}
 use Rattle.job.specs.declared.Fit.the-variants.{Right, Wrong}
 use Rattle.job.specs.declared.Lent.{Lent}

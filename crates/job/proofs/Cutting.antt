@@ -1,11 +1,9 @@
 -- However a job is cut into pieces, the calls give what the whole-job reading gives.
 use Prim.Native.Nat.{ℕ, zero, suc, _+_, _≤_, _<_}
-use mathlib.Core.Bool.{true, false, cond}
 use mathlib.Core.List.{List, [], _∷_, _++_}
-use mathlib.Core.Path.{_≡_, refl, sym, ap, subst, _∙_}
+use mathlib.Core.Path.{_≡_, refl, ap, _∙_}
 use native.Mathlib.Omega.{arith}
 use borrow.Author.Tests.{lt-ltb}
-use lib.Dec.{ltb}
 use lib.ListN.{drop, length, length-append}
 use Rattle.sheet.specs.declared.Form.{Form}
 use Rattle.sheet.specs.Edition.{Edition}
@@ -15,16 +13,16 @@ use Rattle.printer.specs.declared.Pending.the-variants.{Nothing}
 use Rattle.printer.specs.declared.Printer.{Printer}
 use Rattle.printer.specs.Bytes.{run, step}
 use Rattle.printer.specs.Commands.{reading}
-use Rattle.printer.specs.Machine.{Machine, opened}
-use Rattle.printer.specs.Steps.{Outcome, Step, tell, tell-step, then}
+use Rattle.printer.specs.Machine.{Machine}
+use Rattle.printer.specs.Steps.{Step, tell, tell-step, then}
 use Rattle.printer.proofs.Appending.{run-append}
 use Rattle.printer.proofs.Keeping.{run-counts, step-counts, tell-printer}
 use Rattle.printer.proofs.Readings.{run-reading}
-use Rattle.printer.proofs.Ready.{Allowed, Fine, Ready}
+use Rattle.printer.proofs.Ready.{Allowed, Ready}
 use Rattle.printer.proofs.StaysSound.{opened-ready, run-ready, step-fine, tell-ready}
 use Rattle.job.specs.declared.Answer.the-variants.{Done}
-use Rattle.job.specs.Calls.{Feeding, Opening, feeding, heard, limit, opening, take-bytes}
-use Rattle.job.specs.Protocol.{Delivery, after, answered, delivered, delivery, joined, offer}
+use Rattle.job.specs.Calls.{Feeding, heard, limit, opening, take-bytes}
+use Rattle.job.specs.Protocol.{Delivery, answered, delivered, delivery, joined, offer}
 use Rattle.job.proofs.Accepted.{Accepted, feeding-takes, opening-accepted}
 
 module _ (e : Edition) (font : List ℕ) where
@@ -89,14 +87,18 @@ module _ (e : Edition) (font : List ℕ) where
           delivery-run pieces (run e font piece m .machine) (room-back piece (joined pieces) m r),
         )
 
+-- from any machine that is ready and has nothing pending, for bytes that fit the job
+pub any-cutting-from : {e : Edition} {m : Machine} → Ready e m → m .printer .pending ≡ Nothing → (font : List ℕ) → length font ≡ 2048 → (pieces : List (List ℕ))
+    → m .printer .job + length (joined pieces) ≤ limit → delivery e font pieces m ≡ delivered (reading e font (joined pieces) m)
+any-cutting-from {e} {m} h idle font sized pieces l =
+    delivery-run e font sized pieces m (record { ready = h; fits = l }) ∙ ap delivered (run-reading e font (joined pieces) m idle)
+
 -- DEMAND 3. A job that is opened and not refused, of at most 4,294,967,295 bytes, however it is cut: the calls give what the reading of the whole
 -- job gives, the same forms and notes in the same order and the same machine, and the last answer is 0.
 pub any-cutting : (e : Edition) (font : List ℕ) (lines spacing : ℕ) (lent : Machine) (pieces : List (List ℕ))
     → opening e lines spacing font lent .answer ≡ Done → length (joined pieces) ≤ limit
     → delivery e font pieces (opening e lines spacing font lent .machine) ≡ delivered (reading e font (joined pieces) (opening e lines spacing font lent .machine))
 any-cutting e font lines spacing lent pieces done l =
-    let a : Accepted e (record { lines = lines; spacing = spacing }) font (opening e lines spacing font lent) = opening-accepted e lines spacing font lent done in
     let f : Form = record { lines = lines; spacing = spacing } in
-    rw (a .machine)
-    (delivery-run e font (a .font) pieces (opened e f) (record { ready = opened-ready e f (a .lines) (a .spacing); fits = omega arith })
-    ∙ ap delivered (run-reading e font (joined pieces) (opened e f) refl))
+    let a : Accepted e f font (opening e lines spacing font lent) = opening-accepted e lines spacing font lent done in
+    rw (a .machine) (any-cutting-from (opened-ready e f (a .lines) (a .spacing)) refl font (a .font) pieces (omega arith))

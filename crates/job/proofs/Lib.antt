@@ -2,3 +2,6 @@
 pub mod Accepted
 pub mod Cutting
 pub mod FeedingDots
+pub mod Answering
+pub mod Unique
+pub mod Table

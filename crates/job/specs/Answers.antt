@@ -1,6 +1,7 @@
 -- The answers of a call, by document 01's numbers. Document 01, "What a call gives back".
 use Prim.Native.Nat.{ℕ}
-use mathlib.Core.List.{List, [], _∷_}
+use mathlib.Core.Bool.{Bool, true, false}
+use mathlib.Core.List.{[], _∷_}
 use Rattle.printer.specs.Numbers.{Report, note-number}
 use Rattle.job.specs.declared.Answer.{Answer}
 use Rattle.job.specs.declared.Answer.the-variants.{Done, Finished, Noted, Full, Unsound, Misfit, PastForm, WrongLines, WrongSpacing}
@@ -38,3 +39,15 @@ close-report Refused = plain 10
 close-report (Unfinished place) = record { number = 2; values = place ∷ [] }
 close-report Unprinted = plain 1
 close-report Clean = plain 0
+
+-- the refusals, numbers 10 to 15, 18 and 19: they change no lent memory and take no byte
+unfoldable pub refusal : Answer → Bool
+refusal Done = false
+refusal Finished = false
+refusal (Noted f place) = false
+refusal Full = false
+refusal Unsound = true
+refusal (Misfit lent) = true
+refusal PastForm = false
+refusal WrongLines = true
+refusal WrongSpacing = true

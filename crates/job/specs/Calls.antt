@@ -17,7 +17,6 @@ use Rattle.job.specs.declared.Answer.{Answer}
 use Rattle.job.specs.declared.Answer.the-variants.{Done, Finished, Noted, Full, Unsound, Misfit, PastForm, WrongLines, WrongSpacing}
 use Rattle.job.specs.declared.Fit.{Fit}
 use Rattle.job.specs.declared.Fit.the-variants.{Right, Wrong}
-use Rattle.job.specs.declared.Lent.{Lent}
 use Rattle.job.specs.declared.Lent.the-variants.{Page, LineStore, Staging, DownloadStore, Font}
 
 -- the first of what is lent that has not the exact length: page L × R × 825 bytes; line store 2,200 numbers; staging, download store and font

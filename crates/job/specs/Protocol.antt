@@ -6,12 +6,10 @@ use mathlib.Core.List.{List, [], _∷_, _++_}
 use lib.ListN.{drop, length}
 use Rattle.sheet.specs.Edition.{Edition}
 use Rattle.sheet.specs.Form.{blank-page}
-use Rattle.printer.specs.declared.Fault.{Fault}
 use Rattle.printer.specs.Machine.{Machine, with-page}
 use Rattle.printer.specs.Steps.{Outcome, Told, form, note}
 use Rattle.job.specs.declared.Answer.{Answer}
 use Rattle.job.specs.declared.Answer.the-variants.{Done, Finished, Noted, Full, Unsound, Misfit, PastForm, WrongLines, WrongSpacing}
-use Rattle.job.specs.declared.Lent.{Lent}
 use Rattle.job.specs.Calls.{Feeding, feeding}
 
 -- what a caller has in the end: the forms and notes in order, the answer that ended it, and the machine left
@@ -72,3 +70,7 @@ joined (piece ∷ pieces) = piece ++ joined pieces
 -- a whole job delivered: what was told of it and the machine left
 abbrev pub delivered : Outcome → Delivery
 delivered o = record { told = o .told; answer = Done; machine = o .machine }
+
+-- what was told of a delivery and the machine left, without the answer that ended it
+abbrev pub outcome : Delivery → Outcome
+outcome d = record { told = d .told; machine = d .machine }

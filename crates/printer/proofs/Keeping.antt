@@ -22,7 +22,7 @@ use Rattle.printer.specs.Escapes.{after-reset, clear-tabs, escape, in-tu
 use Rattle.printer.specs.Machine.{Machine, with-job}
 use Rattle.printer.specs.Plotting.{plot, plot-byte, plot-escape}
 use Rattle.printer.specs.Printing.{print}
-use Rattle.printer.specs.Steps.{Outcome, Step, tell, tell-step}
+use Rattle.printer.specs.Steps.{Step, tell, tell-step}
 use Rattle.printer.specs.Terminators.{carriage-return, form-feed, guarded, newline, strike, tab-to, vertical-tab}
 
 -- what no command touches

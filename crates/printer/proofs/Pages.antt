@@ -1,13 +1,11 @@
 -- What a byte does to the page: it strikes the lines that the byte strikes, and nothing else.
-use Prim.Native.Nat.{ℕ, _+_, _≤_, _<_}
+use Prim.Native.Nat.{ℕ, _+_}
 use mathlib.Core.Bool.{Bool, true, false, cond, not, _&&_, _||_, and-eq-true-iff, true≢false}
 use mathlib.Core.List.{List, [], _∷_}
 use mathlib.Core.Path.{_≡_, refl, sym, ap, _∙_}
 use native.Mathlib.Omega.{arith}
 use borrow.Author.Tests.{eqb-false, eqb-true, leb-true, ne-eqb}
 use lib.Dec.{eqb, leb, ltb}
-use Rattle.sheet.specs.declared.Pitch.{Pitch}
-use Rattle.sheet.specs.declared.Row.{Row}
 use Rattle.sheet.specs.Dots.{struck}
 use Rattle.sheet.specs.Edition.{Edition}
 use Rattle.sheet.specs.Form.{fits}
@@ -16,7 +14,7 @@ use Rattle.printer.specs.declared.Pending.the-variants.{Nothing, Escape,
 use Rattle.printer.specs.declared.Stop.{Stop}
 use Rattle.printer.specs.declared.Stop.the-variants.{Tabbed, Untabbed}
 use Rattle.printer.specs.Alone.{alone, text-byte}
-use Rattle.printer.specs.Bytes.{act, ended, first-byte, payload-byte, second-byte, step, tab-byte, text-escape}
+use Rattle.printer.specs.Bytes.{act, first-byte, payload-byte, second-byte, step, tab-byte, text-escape}
 use Rattle.printer.specs.Downloads.{download}
 use Rattle.printer.specs.Escapes.{after-reset, clear-tabs, escape, in-turn, reset, select, tab, tab-here, tab-item}
 use Rattle.printer.specs.Machine.{Machine, with-job}

@@ -1,12 +1,11 @@
 -- What the sound test says, as facts.
 use Prim.Native.Nat.{ℕ, zero, suc, _+_, _-_, _≤_, _<_}
-use mathlib.Core.Bool.{Bool, true, false, not, _&&_, _||_, and-eq-true-iff, true≢false}
+use mathlib.Core.Bool.{Bool, true, false, not, _||_, and-eq-true-iff, true≢false}
 use mathlib.Core.List.{List, [], _∷_}
-use mathlib.Core.Logic.{_↔_}
 use mathlib.Core.Path.{_≡_, refl, sym, ap, subst, _∙_}
 use native.Mathlib.Omega.{arith}
 use borrow.Author.Tests.{eq-eqb, eqb-true, le-leb, leb-true, lt-ltb, ltb-false, ltb-true, not-true}
-use lib.Dec.{T, eqb, leb, ltb}
+use lib.Dec.{T, ltb}
 use lib.ListN.{drop, getD}
 use lib.Seq.{getD-drop}
 use Rattle.sheet.specs.declared.Form.{Form}

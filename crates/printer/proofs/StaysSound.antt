@@ -1,12 +1,12 @@
 -- Every byte keeps a machine ready, its state sound and its memory of its lengths, and none comes to the guard.
-use Prim.Native.Nat.{ℕ, suc, zero-le, _+_, _-_, _*_, _/_, _%_, _≤_, _<_}
-use mathlib.Core.Bool.{Bool, true, false, cond, not, _&&_, _||_, and-eq-true-iff, true≢false}
-use mathlib.Core.List.{List, [], _∷_, _++_}
-use mathlib.Core.Path.{_≡_, refl, sym, ap, subst, _∙_}
+use Prim.Native.Nat.{ℕ, zero-le, _+_, _-_, _*_, _%_, _≤_, _<_}
+use mathlib.Core.Bool.{Bool, true, false, not, _&&_, _||_, and-eq-true-iff, true≢false}
+use mathlib.Core.List.{List, [], _∷_}
+use mathlib.Core.Path.{_≡_, refl, sym, subst, _∙_}
 use native.Mathlib.Omega.{arith}
-use borrow.Author.Tests.{le-leb, leb-false, leb-true, ltb-false, ltb-true}
+use borrow.Author.Tests.{le-leb, leb-true, ltb-false, ltb-true}
 use lib.Dec.{T, eqb, leb, ltb}
-use lib.ListN.{drop, length, length-append, length-drop, length-replicate, length-set, length-take, set, take}
+use lib.ListN.{drop, length, length-append, length-drop, length-set, length-take, set}
 use lib.Seq.{getD-drop}
 use Rattle.sheet.specs.declared.Form.{Form}
 use Rattle.sheet.specs.declared.Line.{Line}
@@ -14,11 +14,10 @@ use Rattle.sheet.specs.declared.Pitch.{Pitch}
 use Rattle.sheet.specs.declared.Row.{Row}
 use Rattle.sheet.specs.Dots.{struck}
 use Rattle.sheet.specs.Edition.{Edition}
-use Rattle.sheet.specs.Form.{blank-page, empty-line, first-row, fits, form-rows, line-of, lines-allowed, page-bytes, rows-per-line, spacing-allowed, top}
+use Rattle.sheet.specs.Form.{fits, form-rows, line-of, lines-allowed, page-bytes, spacing-allowed, top}
 use Rattle.sheet.proofs.Struck.{length-struck}
 use Rattle.sheet.proofs.Units.{length-blank-page, length-empty-line, line-fits, line-inside, top-fits}
-use Rattle.glyph.specs.Entering.{cell, or-in}
-use Rattle.glyph.specs.Words.{all-well-formed}
+use Rattle.glyph.specs.Entering.{or-in}
 use Rattle.glyph.proofs.Lengths.{length-enter, length-or-in}
 use Rattle.printer.specs.declared.Begun.{Begun}
 use Rattle.printer.specs.declared.Begun.the-variants.{Nowhere, At}
@@ -34,15 +33,15 @@ use Rattle.printer.specs.Alone.{alone, text-byte}
 use Rattle.printer.specs.Bytes.{act, ended, paid, first-byte, payload-byte, run, second-byte, step, tab-byte, text-escape}
 use Rattle.printer.specs.Downloads.{download, out-of-range, replaced}
 use Rattle.printer.specs.Escapes.{after-reset, clear-tabs, elongate, escape, glyphs, in-turn, pitched, plot-on, reset, select, tab, tab-here, tab-item, underscore}
-use Rattle.printer.specs.Machine.{Machine, empty-store, fresh-head, opened, with-job, with-pending, with-staging}
+use Rattle.printer.specs.Machine.{Machine, fresh-head, opened, with-job, with-pending, with-staging}
 use Rattle.printer.specs.Plotting.{plot, plot-byte, plot-escape, plot-off}
 use Rattle.printer.specs.Printing.{entered, moved-to, print}
 use Rattle.printer.specs.Sound.{begun, lone-escape}
 use Rattle.printer.specs.Steps.{Step, tell, tell-step}
-use Rattle.printer.specs.Terminators.{carriage-return, current-line, first-tab, form-feed, guarded, newline, strike, tab-to, vertical-tab}
-use Rattle.printer.proofs.Ready.{Fine, Ready, Sized, fine, fine-cond, fine-finished, fine-noted, fine-quiet, fine-test, length-empty-store}
+use Rattle.printer.specs.Terminators.{carriage-return, current-line, form-feed, guarded, newline, strike, tab-to, vertical-tab}
+use Rattle.printer.proofs.Ready.{Fine, Ready, fine, fine-cond, fine-finished, fine-noted, fine-quiet, fine-test, length-empty-store}
 use Rattle.printer.proofs.SoundTabs.{Inside, first-tab-inside, tab-set, tabs-cleared}
-use Rattle.printer.proofs.Soundness.{Sound, SoundForm, SoundHead, SoundLoad, SoundPlace, SoundPlot, SoundTabs}
+use Rattle.printer.proofs.Soundness.{Sound, SoundHead, SoundLoad, SoundPlace, SoundPlot}
 
 lt-add-one : (a b : ℕ) → a < b → a + 1 ≤ b
 lt-add-one a b h = omega arith

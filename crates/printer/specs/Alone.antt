@@ -1,6 +1,6 @@
 -- A byte that is a whole command, outside plot mode and in it. Document 01, "Bytes outside plot mode", its first rule.
 use Prim.Native.Nat.{ℕ}
-use mathlib.Core.Bool.{Bool, cond, _&&_, _||_}
+use mathlib.Core.Bool.{cond, _&&_, _||_}
 use mathlib.Core.List.{List}
 use lib.Dec.{eqb, leb, ltb}
 use Rattle.sheet.specs.Edition.{Edition}

@@ -42,20 +42,26 @@ pub record Sight : Type 0 where
 abbrev pub sees : Look → Seen → Sight
 sees l s = record { look = l; finds = s }
 
--- a case: where it starts, the job, what is told of it and what is then seen
+-- a case: the row that it starts on and whether on a plot line, the job, what is told of it and what is then seen
 pub record Case : Type 0 where
-  pub start : Machine
+  pub row : ℕ
+  pub plotted : Bool
   pub job : List ℕ
   pub told : List Report
   pub seen : List Sight
 
--- L = 66, 6 an inch, just opened
-abbrev pub start : Machine
-start = opened lp2 (record { lines = 66; spacing = 6 })
+-- L = 66, 6 an inch: a job just opened, but for the row and the line
+abbrev pub start : ℕ → Bool → Machine
+start r plotted =
+    with-head (record { row = record { 0 = r }; column = 0; fresh = not plotted; plotted = plotted; plotting = false })
+    (opened lp2 (record { lines = 66; spacing = 6 }))
 
--- the same on another row, at the beginning of a text line or of a plot line that plot mode has left
-abbrev pub on-row : ℕ → Bool → Machine
-on-row r plotted = with-head (record { row = record { 0 = r }; column = 0; fresh = not plotted; plotted = plotted; plotting = false }) start
+-- a case that starts on the first row, and one that starts on another
+abbrev pub from-top : List ℕ → List Report → List Sight → Case
+from-top job told seen = record { row = 0; plotted = false; job = job; told = told; seen = seen }
+
+abbrev pub from-row : ℕ → Bool → List ℕ → List Report → List Sight → Case
+from-row r plotted job told seen = record { row = r; plotted = plotted; job = job; told = told; seen = seen }
 
 abbrev pub note-at : ℕ → ℕ → Report
 note-at n place = record { number = 2; values = n ∷ place ∷ [] }
@@ -74,33 +80,33 @@ download-b checksum = 0o033 ∷ 0o131 ∷ 0o000 ∷ 0o020 ∷ 0o014 ∷ 0o040 �
 unfoldable pub table : List Case
 table =
     -- A
-    record { start = start; job = []; told = []; seen = sees closed (answer Clean) ∷ [] }
+    from-top [] [] (sees closed (answer Clean) ∷ [])
     -- B
-    ∷ record { start = start; job = replicate 133 0x41; told = note-at 44 132 ∷ []; seen = [] }
+    ∷ from-top (replicate 133 0x41) (note-at 44 132 ∷ []) []
     -- C
-    ∷ record { start = start; job = 0x1b ∷ 0x3c ∷ replicate 67 0x41; told = note-at 44 68 ∷ []; seen = [] }
+    ∷ from-top (0x1b ∷ 0x3c ∷ replicate 67 0x41) (note-at 44 68 ∷ []) []
     -- D
-    ∷ record { start = start; job = 0x1b ∷ 0x64 ∷ 0x7f ∷ []; told = []; seen = sees (column 0) (number 127) ∷ [] }
+    ∷ from-top (0x1b ∷ 0x64 ∷ 0x7f ∷ []) [] (sees (column 0) (number 127) ∷ [])
     -- E
-    ∷ record { start = start; job = 0x1b ∷ 0x64 ∷ 0x1b ∷ 0x1b ∷ []; told = []; seen = sees position (number 1) ∷ sees (column 0) (number 27) ∷ [] }
+    ∷ from-top (0x1b ∷ 0x64 ∷ 0x1b ∷ 0x1b ∷ []) [] (sees position (number 1) ∷ sees (column 0) (number 27) ∷ [])
     -- F
-    ∷ record { start = start; job = 0x1b ∷ 0x46 ∷ 0x0a ∷ 0x00 ∷ 0x0b ∷ []; told = []; seen = sees row (number 108) ∷ [] }
+    ∷ from-top (0x1b ∷ 0x46 ∷ 0x0a ∷ 0x00 ∷ 0x0b ∷ []) [] (sees row (number 108) ∷ [])
     -- G
-    ∷ record { start = start; job = 0x0b ∷ []; told = []; seen = sees row (number 0) ∷ [] }
+    ∷ from-top (0x0b ∷ []) [] (sees row (number 0) ∷ [])
     -- H
-    ∷ record { start = start; job = download-b 0o341; told = []; seen = sees (stored 1056 16) (bytes glyph-b) ∷ [] }
-    ∷ record { start = start; job = download-b 0o340; told = note-at 45 0 ∷ []; seen = [] }
+    ∷ from-top (download-b 0o341) [] (sees (stored 1056 16) (bytes glyph-b) ∷ [])
+    ∷ from-top (download-b 0o340) (note-at 45 0 ∷ []) []
     -- I
-    ∷ record { start = on-row 780 false; job = 0x0a ∷ []; told = form-finished ∷ []; seen = sees row (number 0) ∷ [] }
-    ∷ record { start = on-row 768 false; job = 0x0a ∷ []; told = []; seen = sees row (number 780) ∷ [] }
+    ∷ from-row 780 false (0x0a ∷ []) (form-finished ∷ []) (sees row (number 0) ∷ [])
+    ∷ from-row 768 false (0x0a ∷ []) [] (sees row (number 780) ∷ [])
     -- J
-    ∷ record { start = on-row 776 true; job = 0x0a ∷ []; told = []; seen = sees row (number 783) ∷ [] }
-    ∷ record { start = on-row 777 true; job = 0x0a ∷ []; told = form-finished ∷ []; seen = [] }
+    ∷ from-row 776 true (0x0a ∷ []) [] (sees row (number 783) ∷ [])
+    ∷ from-row 777 true (0x0a ∷ []) (form-finished ∷ []) []
     -- K
-    ∷ record { start = start; job = 0x1b ∷ 0x64 ∷ 0x01 ∷ 0x1b ∷ 0x65 ∷ 0x0a ∷ []; told = []; seen = sees row (number 7) ∷ [] }
-    ∷ record { start = start; job = 0x1b ∷ 0x64 ∷ 0x01 ∷ 0x1b ∷ 0x65 ∷ 0x0d ∷ 0x0a ∷ []; told = []; seen = sees row (number 12) ∷ [] }
+    ∷ from-top (0x1b ∷ 0x64 ∷ 0x01 ∷ 0x1b ∷ 0x65 ∷ 0x0a ∷ []) [] (sees row (number 7) ∷ [])
+    ∷ from-top (0x1b ∷ 0x64 ∷ 0x01 ∷ 0x1b ∷ 0x65 ∷ 0x0d ∷ 0x0a ∷ []) [] (sees row (number 12) ∷ [])
     -- L
-    ∷ record { start = start; job = 0x1b ∷ 0x30 ∷ []; told = note-at 42 0 ∷ []; seen = [] }
+    ∷ from-top (0x1b ∷ 0x30 ∷ []) (note-at 42 0 ∷ []) []
     ∷ []
 
 -- what is told of a job, and what is then seen
@@ -115,7 +121,7 @@ stated c = record { told = c .told; seen = map (λ (s : Sight). s .finds) (c .se
 -- what a way of reading a job makes of a case
 unfoldable pub found : (List ℕ → Machine → Outcome) → Case → Findings
 found read c =
-    let o : Outcome = read (c .job) (c .start) in
+    let o : Outcome = read (c .job) (start (c .row) (c .plotted)) in
     record { told = map told-report (o .told); seen = map (λ (s : Sight). look-at (s .look) (o .machine)) (c .seen) }
 
 -- a way of reading finds in each case of the table what the case says

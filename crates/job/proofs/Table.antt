@@ -1,0 +1,84 @@
+-- The table A to L at the calls: each case's job, fed in one piece from the case's start, gives what the case says, and the last answer is 0.
+use Prim.Native.Nat.{ℕ, _+_, _≤_}
+use mathlib.Core.Bool.{Bool, true, false, not, _&&_, and-eq-true-iff}
+use mathlib.Core.List.{List, [], _∷_, map, append-nil}
+use mathlib.Core.Path.{_≡_, refl, _∙_}
+use native.Mathlib.Omega.{arith}
+use borrow.Author.Tests.{leb-true}
+use lib.Dec.{T, leb}
+use lib.ListN.{length}
+use Rattle.sheet.specs.declared.Form.{Form}
+use Rattle.sheet.specs.declared.Pitch.the-variants.{Normal}
+use Rattle.sheet.specs.Edition.{lp2}
+use Rattle.sheet.specs.Form.{form-rows, lines-allowed, rows-per-line, spacing-allowed}
+use Rattle.printer.specs.Commands.{reading}
+use Rattle.printer.specs.Machine.{Machine, opened}
+use Rattle.printer.specs.Table.{Case, Meets, found, start, table}
+use Rattle.printer.proofs.Ready.{Ready}
+use Rattle.printer.proofs.Soundness.{SoundHead}
+use Rattle.printer.proofs.StaysSound.{opened-ready}
+use Rattle.printer.proofs.Table.{cases}
+use Rattle.job.specs.declared.Answer.the-variants.{Done}
+use Rattle.job.specs.Protocol.{Delivery, delivered, delivery, joined, outcome}
+use Rattle.job.proofs.Cutting.{any-cutting-from}
+
+-- a line that is no plot line is fresh
+fresh-row : (plotted : Bool) → T (not plotted) → (_≡_ {A = ℕ} 0 0) × (plotted ≡ false)
+fresh-row false t = (refl, refl)
+
+start-ready : (r : ℕ) (plotted : Bool) → r + 9 ≤ 792 → Ready lp2 (start r plotted)
+unfolding form-rows rows-per-line lines-allowed spacing-allowed lp2
+start-ready r plotted l =
+    let f : Form = record { lines = 66; spacing = 6 } in
+    let h : Ready lp2 (opened lp2 f) = opened-ready lp2 f refl refl in
+    let head : SoundHead f (lp2 .width Normal) (start r plotted .printer .head) = record { row = l; column = omega arith; fresh = fresh-row plotted } in
+    record {
+      printer = record { form = h .printer .form; head = head; tabs = h .printer .tabs; load = tt; place = tt; plot = λ t. absurd t };
+      memory = h .memory;
+    }
+
+-- a case starts on a row of the form and has a short job
+abbrev fed : Case → Bool
+fed c = leb (c .row + 9) 792 && leb (length (c .job)) 200
+
+abbrev all-fed : List Case → Bool
+all-fed [] = true
+all-fed (c ∷ cs) = fed c && all-fed cs
+
+table-fed : all-fed table ≡ true
+unfolding table
+table-fed = refl
+
+module _ (font : List ℕ) (sized : length font ≡ 2048) where
+  -- a job fed in one piece
+  abbrev pub whole : List ℕ → Machine → Delivery
+  whole job m = delivery lp2 font (job ∷ []) m
+
+  one-piece : (c : Case) → fed c ≡ true
+      → whole (c .job) (start (c .row) (c .plotted)) ≡ delivered (reading lp2 font (c .job) (start (c .row) (c .plotted)))
+  unfolding joined
+  one-piece c q =
+      let t = and-eq-true-iff _ _ .0 q in
+      let l : length (c .job) ≤ 200 = leb-true _ _ (t .1) in
+      simp append-nil at (any-cutting-from (start-ready (c .row) (c .plotted) (leb-true _ _ (t .0))) refl font sized (c .job ∷ []) (simp append-nil (omega arith)))
+
+  found-same : (cs : List Case) → all-fed cs ≡ true → map (found (λ (job : List ℕ) (m : Machine). outcome (whole job m))) cs ≡ map (found (reading lp2 font)) cs
+  unfolding found
+  found-same [] q = refl
+  found-same (c ∷ cs) q =
+      let t = and-eq-true-iff _ _ .0 q in
+      rw (one-piece c (t .0), found-same cs (t .1))
+
+  done-all : (cs : List Case) → all-fed cs ≡ true → map (λ (c : Case). whole (c .job) (start (c .row) (c .plotted)) .answer) cs ≡ map (λ (c : Case). Done) cs
+  done-all [] q = refl
+  done-all (c ∷ cs) q =
+      let t = and-eq-true-iff _ _ .0 q in
+      rw (one-piece c (t .0), done-all cs (t .1))
+
+  -- the calls find in each case of the table what the case says
+  pub calls-meet : Meets (λ (job : List ℕ) (m : Machine). outcome (whole job m))
+  calls-meet = found-same table table-fed ∙ cases .by-commands font
+
+  -- and the last answer of each is 0
+  pub calls-done : map (λ (c : Case). whole (c .job) (start (c .row) (c .plotted)) .answer) table ≡ map (λ (c : Case). Done) table
+  calls-done = done-all table table-fed
