@@ -4,7 +4,7 @@ use mathlib.Core.Bool.{Bool, true, false, cond}
 use mathlib.Core.List.{List}
 use mathlib.Core.Path.{_≡_, refl, _∙_}
 use lib.ListN.{length, length-set}
-use Rattle.glyph.specs.Entering.{cell, enter, enter-glyph, enter-narrow, enter-wide, or-in, underline}
+use Rattle.glyph.specs.Entering.{cell, enter, enter-glyph, enter-narrow, enter-wide, or-in, underscore}
 
 -- either of two lists of one length
 length-cond : (t : Bool) (a b : List ℕ) (n : ℕ) → length a ≡ n → length b ≡ n → length (cond t a b) ≡ n
@@ -26,14 +26,14 @@ module _ (glyphs : List ℕ) (n at : ℕ) (line : List ℕ) where
   length-wide zero = refl
   length-wide (suc k) = length-or-in _ _ _ ∙ length-or-in _ _ _ ∙ length-wide k
 
-length-underline : (k at : ℕ) (line : List ℕ) → length (underline k at line) ≡ length line
-unfolding underline
-length-underline zero at line = refl
-length-underline (suc k) at line = length-or-in _ _ _ ∙ length-underline k at line
+length-underscore : (k at : ℕ) (line : List ℕ) → length (underscore k at line) ≡ length line
+unfolding underscore
+length-underscore zero at line = refl
+length-underscore (suc k) at line = length-or-in _ _ _ ∙ length-underscore k at line
 
-pub length-enter : (glyphs : List ℕ) (n : ℕ) (elongated underscore : Bool) (at : ℕ) (line : List ℕ) → length (enter glyphs n elongated underscore at line) ≡ length line
+pub length-enter : (glyphs : List ℕ) (n : ℕ) (elongated underscored : Bool) (at : ℕ) (line : List ℕ) → length (enter glyphs n elongated underscored at line) ≡ length line
 unfolding enter enter-glyph
-length-enter glyphs n elongated underscore at line =
+length-enter glyphs n elongated underscored at line =
     let inked : List ℕ = enter-glyph glyphs n elongated at line in
     let h : length inked ≡ length line = length-cond elongated _ _ _ (length-wide glyphs n at line 7) (length-narrow glyphs n at line 7) in
-    length-cond underscore _ _ _ (length-underline (cell elongated / 2) at inked ∙ h) h
+    length-cond underscored _ _ _ (length-underscore (cell elongated / 2) at inked ∙ h) h

@@ -26,9 +26,9 @@ enter-wide (suc k) glyphs n at line =
     or-in (at + (2 * k + 1)) (column glyphs n k) (or-in (at + 2 * k) (column glyphs n k) (enter-wide k glyphs n at line))
 
 -- wire 9 added at the first k even columns
-unfoldable pub underline : ℕ → ℕ → List ℕ → List ℕ
-underline zero at line = line
-underline (suc k) at line = or-in (at + 2 * k) 1 (underline k at line)
+unfoldable pub underscore : ℕ → ℕ → List ℕ → List ℕ
+underscore zero at line = line
+underscore (suc k) at line = or-in (at + 2 * k) 1 (underscore k at line)
 
 -- the seven columns of glyph n
 unfoldable pub enter-glyph : List ℕ → ℕ → Bool → ℕ → List ℕ → List ℕ
@@ -36,6 +36,6 @@ enter-glyph glyphs n elongated at line = cond elongated (enter-wide 7 glyphs n a
 
 -- a whole character: the glyph, and the underscore at the even columns of its cell
 unfoldable pub enter : List ℕ → ℕ → Bool → Bool → ℕ → List ℕ → List ℕ
-enter glyphs n elongated underscore at line =
+enter glyphs n elongated underscored at line =
     let inked : List ℕ = enter-glyph glyphs n elongated at line in
-    cond underscore (underline (cell elongated / 2) at inked) inked
+    cond underscored (underscore (cell elongated / 2) at inked) inked

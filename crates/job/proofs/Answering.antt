@@ -21,7 +21,7 @@ use Rattle.printer.proofs.Ready.{Allowed, Ready}
 use Rattle.printer.proofs.Soundness.{sound-facts}
 use Rattle.printer.proofs.StaysSound.{step-fine}
 use Rattle.job.specs.declared.Answer.{Answer}
-use Rattle.job.specs.declared.Answer.the-variants.{Done, Finished, Noted, Full, Unsound, PastForm, WrongLines, WrongSpacing}
+use Rattle.job.specs.declared.Answer.the-variants.{Done, Finished, Noted, JobFull, Unsound, Guarded, WrongLines, WrongSpacing}
 use Rattle.job.specs.declared.Fit.{Fit}
 use Rattle.job.specs.declared.Fit.the-variants.{Right, Wrong}
 use Rattle.job.specs.Answers.{refusal}
@@ -49,12 +49,12 @@ module _ (e : Edition) (font : List ℕ) where
   heard-taking n event.Quiet m x f q k = record { allowed = k .allowed; counted = omega (arith, k .counted); within = omega (arith, k .within); all = λ d. ap suc (k .all d) }
   heard-taking n event.Finished m x f q k = record { allowed = refl; counted = q; within = omega arith; all = λ d. absurd (not-done Finished d refl) }
   heard-taking n (event.Noted g place) m x f q k = record { allowed = refl; counted = q; within = omega arith; all = λ d. absurd (not-done (Noted g place) d refl) }
-  heard-taking n event.Guard m x f q k = stopped-taking (suc n) PastForm m refl (λ d. absurd (not-done PastForm d refl))
+  heard-taking n event.Guard m x f q k = stopped-taking (suc n) Guarded m refl (λ d. absurd (not-done Guarded d refl))
 
-  taking-if : (n : ℕ) (m : Machine) (f : Feeding) (t : Bool) → Taking n m f → Taking n m (cond t f (stopped Full m))
+  taking-if : (n : ℕ) (m : Machine) (f : Feeding) (t : Bool) → Taking n m f → Taking n m (cond t f (stopped JobFull m))
   unfolding refusal
   taking-if n m f true k = k
-  taking-if n m f false k = stopped-taking n Full m refl (λ d. absurd (not-done Full d refl))
+  taking-if n m f false k = stopped-taking n JobFull m refl (λ d. absurd (not-done JobFull d refl))
 
   taking : (bs : List ℕ) (m : Machine) → Taking (length bs) m (take-bytes e font bs m)
   unfolding take-bytes refusal
@@ -175,7 +175,7 @@ shut-unsound e = refl
 -- No feeding answers 17: no byte meets the guard in a sound state.
 module _ (e : Edition) (font : List ℕ) where
   abbrev Inside : Feeding → Type 0
-  Inside f = f .answer ≡ PastForm → ⊥
+  Inside f = f .answer ≡ Guarded → ⊥
 
   heard-inside : (v : Event) (m x : Machine) (f : Feeding) → Allowed v → Inside f → Inside (heard v m x f)
   unfolding heard
@@ -184,7 +184,7 @@ module _ (e : Edition) (font : List ℕ) where
   heard-inside (event.Noted g place) m x f a k d = let z : _≡_ {A = ℕ} 0 1 = cc in omega arith
   heard-inside event.Guard m x f a k d = absurd a
 
-  inside-if : (m : Machine) (f : Feeding) (t : Bool) → Inside f → Inside (cond t f (stopped Full m))
+  inside-if : (m : Machine) (f : Feeding) (t : Bool) → Inside f → Inside (cond t f (stopped JobFull m))
   inside-if m f true k d = k d
   inside-if m f false k d = let z : _≡_ {A = ℕ} 0 1 = cc in omega arith
 
@@ -201,5 +201,5 @@ module _ (e : Edition) (font : List ℕ) where
   fate-inside piece m f (refused r t q) d = true≢false (sym r ∙ ap refusal d)
   fate-inside piece m f (taken ready q) d = taken-inside piece m ready (sym (ap (λ (g : Feeding). g .answer) q) ∙ d)
 
-  pub never-past-form : (piece : List ℕ) (m : Machine) → feeding e font piece m .answer ≡ PastForm → ⊥
+  pub never-past-form : (piece : List ℕ) (m : Machine) → feeding e font piece m .answer ≡ Guarded → ⊥
   never-past-form piece m d = fate-inside piece m _ (fate e font piece m) d

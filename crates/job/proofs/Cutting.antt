@@ -96,7 +96,7 @@ any-cutting-from {e} {m} h idle font sized pieces l =
 -- DEMAND 3. A job that is opened and not refused, of at most 4,294,967,295 bytes, however it is cut: the calls give what the reading of the whole
 -- job gives, the same forms and notes in the same order and the same machine, and the last answer is 0.
 pub any-cutting : (e : Edition) (font : List ℕ) (lines spacing : ℕ) (lent : Machine) (pieces : List (List ℕ))
-    → opening e lines spacing font lent .answer ≡ Done → length (joined pieces) ≤ limit
+    → opening e lines spacing font lent .answer ≡ Done → length (joined pieces) ≤ 4294967295
     → delivery e font pieces (opening e lines spacing font lent .machine) ≡ delivered (reading e font (joined pieces) (opening e lines spacing font lent .machine))
 any-cutting e font lines spacing lent pieces done l =
     let f : Form = record { lines = lines; spacing = spacing } in

@@ -28,7 +28,7 @@ use Rattle.printer.proofs.Ready.{Allowed, Ready}
 use Rattle.printer.proofs.Soundness.{sound-facts}
 use Rattle.printer.proofs.StaysSound.{step-fine}
 use Rattle.job.specs.declared.Answer.{Answer}
-use Rattle.job.specs.declared.Answer.the-variants.{Done, Full, Misfit, Unsound}
+use Rattle.job.specs.declared.Answer.the-variants.{Done, JobFull, Misfit, Unsound}
 use Rattle.job.specs.declared.Fit.{Fit}
 use Rattle.job.specs.declared.Fit.the-variants.{Right, Wrong}
 use Rattle.job.specs.Calls.{Feeding, feed-fitted, feeding, fit, heard, limit, stopped, take-bytes}
@@ -58,9 +58,9 @@ module _ (e : Edition) (font : List ℕ) where
   heard-inked f page ss rest Guard m n after a on q k = absurd a
 
   inked-if : (f : Form) (m : Machine) (ss : List Strike) (left : Feeding) (t : Bool) → Inked f (m .page) ss left
-      → Inked f (m .page) (cond t ss []) (cond t left (stopped Full m))
+      → Inked f (m .page) (cond t ss []) (cond t left (stopped JobFull m))
   inked-if f m ss left true k = k
-  inked-if f m ss left false k = unstruck f Full m
+  inked-if f m ss left false k = unstruck f JobFull m
 
   taken-inked : (bs : List ℕ) (m : Machine) (f : Form) → m .printer .form ≡ f → Ready e m → Inked f (m .page) (taken-strikes e font bs m) (take-bytes e font bs m)
   unfolding taken-strikes take-bytes

@@ -1,12 +1,12 @@
--- The answers of a call, by document 01's numbers. Document 01, "What a call gives back".
+-- The answers of the calls, by document 01's numbers. Document 01, "What a call gives back".
 use Prim.Native.Nat.{ℕ}
 use mathlib.Core.Bool.{Bool, true, false}
 use mathlib.Core.List.{[], _∷_}
-use Rattle.printer.specs.Numbers.{Report, note-number}
+use Rattle.printer.specs.Numbers.{Report, form-report, note-report}
 use Rattle.job.specs.declared.Answer.{Answer}
-use Rattle.job.specs.declared.Answer.the-variants.{Done, Finished, Noted, Full, Unsound, Misfit, PastForm, WrongLines, WrongSpacing}
+use Rattle.job.specs.declared.Answer.the-variants.{Done, Finished, Noted, JobFull, Unsound, Misfit, Guarded, WrongLines, WrongSpacing}
 use Rattle.printer.specs.declared.Closing.{Closing}
-use Rattle.printer.specs.declared.Closing.the-variants.{Refused, Unfinished, Unprinted, Clean}
+use Rattle.printer.specs.declared.Closing.the-variants as closing
 use Rattle.job.specs.declared.Lent.{Lent}
 use Rattle.job.specs.declared.Lent.the-variants.{Page, LineStore, Staging, DownloadStore, Font}
 
@@ -24,30 +24,30 @@ plain n = record { number = n; values = [] }
 -- the number and the values of an answer
 unfoldable pub report : Answer → Report
 report Done = plain 0
-report Finished = plain 1
-report (Noted f place) = record { number = 2; values = note-number f ∷ place ∷ [] }
-report Full = plain 3
+report Finished = form-report
+report (Noted f place) = note-report f place
+report JobFull = plain 3
 report Unsound = plain 10
 report (Misfit lent) = plain (lent-number lent)
-report PastForm = plain 17
+report Guarded = plain 17
 report WrongLines = plain 18
 report WrongSpacing = plain 19
 
--- what closing answers; but for 10 the numbers are the house's, and an unfinished command has its place
+-- the number and the values of what closing answers: document 01 numbers the 10 alone, and the others are ours; an unfinished command has its place
 unfoldable pub close-report : Closing → Report
-close-report Refused = plain 10
-close-report (Unfinished place) = record { number = 2; values = place ∷ [] }
-close-report Unprinted = plain 1
-close-report Clean = plain 0
+close-report closing.Unsound = plain 10
+close-report (closing.Unfinished place) = record { number = 2; values = place ∷ [] }
+close-report closing.Unprinted = plain 1
+close-report closing.Clean = plain 0
 
 -- the refusals, numbers 10 to 15, 18 and 19: they change no lent memory and take no byte
 unfoldable pub refusal : Answer → Bool
 refusal Done = false
 refusal Finished = false
 refusal (Noted f place) = false
-refusal Full = false
+refusal JobFull = false
 refusal Unsound = true
 refusal (Misfit lent) = true
-refusal PastForm = false
+refusal Guarded = false
 refusal WrongLines = true
 refusal WrongSpacing = true

@@ -14,13 +14,13 @@ use Rattle.printer.specs.Machine.{Machine, opened, shut, with-printer}
 use Rattle.printer.specs.Sound.{sound}
 use Rattle.printer.specs.Steps.{Step}
 use Rattle.job.specs.declared.Answer.{Answer}
-use Rattle.job.specs.declared.Answer.the-variants.{Done, Finished, Noted, Full, Unsound, Misfit, PastForm, WrongLines, WrongSpacing}
+use Rattle.job.specs.declared.Answer.the-variants.{Done, Finished, Noted, JobFull, Unsound, Misfit, Guarded, WrongLines, WrongSpacing}
 use Rattle.job.specs.declared.Fit.{Fit}
 use Rattle.job.specs.declared.Fit.the-variants.{Right, Wrong}
 use Rattle.job.specs.declared.Lent.the-variants.{Page, LineStore, Staging, DownloadStore, Font}
 
--- the first of what is lent that has not the exact length: page L × R × 825 bytes; line store 2,200 numbers; staging, download store and font
--- 2,048 bytes each
+-- the first of what is lent that has not its exact length: the page's is the form's, the line store's the edition's (L × R × 825 bytes and 2,200 numbers
+-- for the LP2); staging, download store and font have 2,048 bytes each
 unfoldable pub fit : Edition → Form → List ℕ → Machine → Fit
 fit e f font m =
     cond (eqb (length (m .page)) (page-bytes e f))
@@ -42,11 +42,12 @@ pub record Opening : Type 0 where
 abbrev pub unopened : Edition → Answer → Machine → Opening
 unopened e a m = record { answer = a; machine = with-printer (shut e) m }
 
+-- 11 to 15, then 0
 unfoldable pub open-fitted : Edition → Form → Fit → Machine → Opening
 open-fitted e f Right m = record { answer = Done; machine = opened e f }
 open-fitted e f (Wrong lent) m = unopened e (Misfit lent) m
 
--- opening, over a machine of which only the memory counts: 18, 19, 11 to 15, then 0
+-- opening, over a machine of which only the memory counts: 18, 19, then the lengths
 unfoldable pub opening : Edition → ℕ → ℕ → List ℕ → Machine → Opening
 opening e lines spacing font m =
     let f : Form = record { lines = lines; spacing = spacing } in
@@ -78,20 +79,21 @@ unfoldable pub heard : Event → Machine → Machine → Feeding → Feeding
 heard event.Quiet m n after = one-more after
 heard event.Finished m n after = record { answer = Finished; taken = 1; machine = n }
 heard (event.Noted f place) m n after = record { answer = Noted f place; taken = 1; machine = n }
-heard event.Guard m n after = stopped PastForm m
+heard event.Guard m n after = stopped Guarded m
 
 -- the bytes of a piece, taken one after the other while they fit the job
 unfoldable pub take-bytes : Edition → List ℕ → List ℕ → Machine → Feeding
 take-bytes e font [] m = stopped Done m
 take-bytes e font (b ∷ bs) m =
     let s : Step = step e font b m in
-    cond (ltb (m .printer .job) limit) (heard (s .event) m (s .machine) (take-bytes e font bs (s .machine))) (stopped Full m)
+    cond (ltb (m .printer .job) limit) (heard (s .event) m (s .machine) (take-bytes e font bs (s .machine))) (stopped JobFull m)
 
+-- 11 to 15 in order, then bytes
 unfoldable pub feed-fitted : Edition → List ℕ → List ℕ → Fit → Machine → Feeding
 feed-fitted e font piece Right m = take-bytes e font piece m
 feed-fitted e font piece (Wrong lent) m = stopped (Misfit lent) m
 
--- feeding a piece: 10, 11 to 15 in order, then bytes
+-- feeding a piece: 10, then the lengths, then bytes
 unfoldable pub feeding : Edition → List ℕ → List ℕ → Machine → Feeding
 feeding e font piece m =
     cond (sound e (m .printer)) (feed-fitted e font piece (fit e (m .printer .form) font m) m) (stopped Unsound m)

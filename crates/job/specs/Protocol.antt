@@ -9,7 +9,7 @@ use Rattle.sheet.specs.Form.{blank-page}
 use Rattle.printer.specs.Machine.{Machine, with-page}
 use Rattle.printer.specs.Steps.{Outcome, Told, form, note}
 use Rattle.job.specs.declared.Answer.{Answer}
-use Rattle.job.specs.declared.Answer.the-variants.{Done, Finished, Noted, Full, Unsound, Misfit, PastForm, WrongLines, WrongSpacing}
+use Rattle.job.specs.declared.Answer.the-variants.{Done, Finished, Noted, JobFull, Unsound, Misfit, Guarded, WrongLines, WrongSpacing}
 use Rattle.job.specs.Calls.{Feeding, feeding}
 
 -- what a caller has in the end: the forms and notes in order, the answer that ended it, and the machine left
@@ -29,10 +29,10 @@ unfoldable pub answered : Edition → Answer → Machine → (Machine → Delive
 answered e Finished m go = after (form (m .page) ∷ []) (go (with-page (blank-page e (m .printer .form)) m))
 answered e (Noted f place) m go = after (note f place ∷ []) (go m)
 answered e Done m go = ends Done m
-answered e Full m go = ends Full m
+answered e JobFull m go = ends JobFull m
 answered e Unsound m go = ends Unsound m
 answered e (Misfit lent) m go = ends (Misfit lent) m
-answered e PastForm m go = ends PastForm m
+answered e Guarded m go = ends Guarded m
 answered e WrongLines m go = ends WrongLines m
 answered e WrongSpacing m go = ends WrongSpacing m
 
@@ -48,10 +48,10 @@ abbrev pub used-up : Answer → Bool
 used-up Done = true
 used-up Finished = false
 used-up (Noted f place) = false
-used-up Full = false
+used-up JobFull = false
 used-up Unsound = false
 used-up (Misfit lent) = false
-used-up PastForm = false
+used-up Guarded = false
 used-up WrongLines = false
 used-up WrongSpacing = false
 

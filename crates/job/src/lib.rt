@@ -22,10 +22,10 @@ pub enum Answer {
     Done,
     Finished,
     Noted(Fault, u32),
-    Full,
+    JobFull,
     Unsound,
     Misfit(Lent),
-    PastForm,
+    Guarded,
     WrongLines,
     WrongSpacing,
 }

@@ -12,8 +12,8 @@ use Rattle.printer.specs.declared.Event.the-variants.{Quiet, Finished, N
 use Rattle.printer.specs.declared.Pending.{Pending}
 use Rattle.printer.specs.declared.Pending.the-variants.{Nothing, Escape, Tabs, Reset, Select, SelectLow, CountHigh, CountLow, AddressHigh, AddressLow, Payload}
 use Rattle.printer.specs.declared.Printer.{Printer}
-use Rattle.printer.specs.declared.Stop.{Stop}
-use Rattle.printer.specs.declared.Stop.the-variants.{Tabbed, Untabbed}
+use Rattle.printer.specs.declared.NextTab.{NextTab}
+use Rattle.printer.specs.declared.NextTab.the-variants.{Tabbed, Untabbed}
 use Rattle.printer.specs.Alone.{alone, text-byte}
 use Rattle.printer.specs.Bytes.{act, first-byte, payload-byte, run, second-byte, step, tab-byte, text-escape}
 use Rattle.printer.specs.Commands.{Command, byte, escaped, loading, obey, resetting, selecting, set-tabs, tab-list}
@@ -42,7 +42,7 @@ keeps-cond true s u h h′ = h
 keeps-cond false s u h h′ = h′
 
 module _ (e : Edition) {k : Kept} where
-  tab-to-keeps : (below lowest : Stop) (m : Machine) → kept m ≡ k → Keeps k (tab-to e below lowest m)
+  tab-to-keeps : (below lowest : NextTab) (m : Machine) → kept m ≡ k → Keeps k (tab-to e below lowest m)
   unfolding tab-to strike
   tab-to-keeps (Tabbed n) lowest m h = h
   tab-to-keeps Untabbed (Tabbed n) m h = h
@@ -86,7 +86,7 @@ counts-cond : {f : Form} {j : ℕ} (t : Bool) (s u : Step) → Counts f j s → 
 counts-cond true s u h h′ = h
 counts-cond false s u h h′ = h′
 
-tab-to-counts : (e : Edition) (below lowest : Stop) (m : Machine) → Counts (m .printer .form) (m .printer .job) (tab-to e below lowest m)
+tab-to-counts : (e : Edition) (below lowest : NextTab) (m : Machine) → Counts (m .printer .form) (m .printer .job) (tab-to e below lowest m)
 tab-to-counts e below lowest m =
     let h : Keeps (kept m) (tab-to e below lowest m) = tab-to-keeps e below lowest m refl in
     (ap (λ (k : Kept). k .form) h, ap (λ (k : Kept). k .job) h)

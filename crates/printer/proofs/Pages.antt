@@ -11,8 +11,8 @@ use Rattle.sheet.specs.Edition.{Edition}
 use Rattle.sheet.specs.Form.{fits}
 use Rattle.printer.specs.declared.Pending.{Pending}
 use Rattle.printer.specs.declared.Pending.the-variants.{Nothing, Escape, Tabs, Reset, Select, SelectLow, CountHigh, CountLow, AddressHigh, AddressLow, Payload}
-use Rattle.printer.specs.declared.Stop.{Stop}
-use Rattle.printer.specs.declared.Stop.the-variants.{Tabbed, Untabbed}
+use Rattle.printer.specs.declared.NextTab.{NextTab}
+use Rattle.printer.specs.declared.NextTab.the-variants.{Tabbed, Untabbed}
 use Rattle.printer.specs.Alone.{alone, text-byte}
 use Rattle.printer.specs.Bytes.{act, first-byte, payload-byte, second-byte, step, tab-byte, text-escape}
 use Rattle.printer.specs.Downloads.{download}
@@ -41,7 +41,7 @@ module _ (e : Edition) (m : Machine) where
   abbrev inked : List ℕ
   inked = struck e (m .page) (m .line) (m .printer .head .row) (m .printer .style .pitch)
 
-  tab-to-page : (below lowest : Stop) → Leaves inked (tab-to e below lowest m)
+  tab-to-page : (below lowest : NextTab) → Leaves inked (tab-to e below lowest m)
   unfolding tab-to strike
   tab-to-page (Tabbed n) lowest = refl
   tab-to-page Untabbed (Tabbed n) = refl

@@ -12,7 +12,7 @@ use Rattle.printer.specs.declared.Pending.{Pending}
 use Rattle.printer.specs.declared.Pending.the-variants.{Nothing, Escape, Tabs, Reset, Select, CountHigh}
 use Rattle.printer.specs.Alone.{alone}
 use Rattle.printer.specs.Bytes.{act, first-byte, run, second-byte, step, text-escape, waiting}
-use Rattle.printer.specs.Commands.{Cut, Items, byte, cut, cut-checksum, cut-download, cut-escape, cut-reset, cut-select, cut-tabs, endless, escaped, items, leave, leave-download, leave-select, listed, obey, read, read-cut, reading, set-tabs, unfinished, whole}
+use Rattle.printer.specs.Commands.{Cut, Items, byte, cut, cut-checksum, cut-download, cut-escape, cut-reset, cut-select, cut-tabs, unended, escaped, items, leave, leave-download, leave-select, listed, obey, read, read-cut, reading, set-tabs, unfinished, whole}
 use Rattle.printer.specs.Escapes.{clear-tabs, escape}
 use Rattle.printer.specs.Machine.{Machine, with-job, with-pending}
 use Rattle.printer.specs.Plotting.{plot-escape}
@@ -49,7 +49,7 @@ module _ (e : Edition) (font : List ℕ) where
         let s₁ : j + 1 + 1 ≡ j + 2 = omega arith in
         let s₂ : j + 2 + suc (length ns) ≡ j + (suc (suc (length bs)) - length rest) = omega arith in
         rw (set-tabs-at e ns (j + 2) (j + (suc (suc (length bs)) - length rest)) Nothing (clear-tabs e m), s₁, s₂)
-    tabs-cut x bs endless h =
+    tabs-cut x bs unended h =
         let s₁ : j + 1 + 1 ≡ j + 2 = omega arith in
         let s₂ : j + 2 + length bs ≡ all-came bs = omega arith in
         rw (set-tabs-at e bs (j + 2) (all-came bs) (Tabs j) (clear-tabs e m), s₁, s₂)

@@ -5,7 +5,7 @@ use mathlib.Core.List.{List, [], _∷_}
 use native.Mathlib.Omega.{arith}
 use lib.Dec.{eqb}
 use lib.ListN.{drop, length, length-drop}
-use Rattle.printer.specs.Commands.{Cut, Items, cut, cut-checksum, cut-download, cut-escape, cut-reset, cut-select, cut-tabs, endless, items, listed, unfinished, whole}
+use Rattle.printer.specs.Commands.{Cut, Items, cut, cut-checksum, cut-download, cut-escape, cut-reset, cut-select, cut-tabs, unended, items, listed, unfinished, whole}
 use Rattle.printer.proofs.TabLists.{Counted, items-counted}
 
 -- what follows the first command is at most n bytes
@@ -21,7 +21,7 @@ module _ (n : ℕ) where
   short-tabs : (bs : List ℕ) (i : Items) → Counted bs i → length bs ≤ n → Short n (cut-tabs i)
   unfolding cut-tabs
   short-tabs bs (listed ns rest) h l = omega arith
-  short-tabs bs endless h l = tt
+  short-tabs bs unended h l = tt
 
   short-reset : (bs : List ℕ) → length bs ≤ n → Short n (cut-reset bs)
   unfolding cut-reset

@@ -8,9 +8,11 @@ use borrow.Author.Tests.{eqb-false, eqb-true}
 use lib.Dec.{T, eqb}
 use lib.ListN.{getD, replicate, set}
 use lib.Seq.{getD-set-other}
+use Rattle.sheet.specs.declared.Line.{Line}
 use Rattle.sheet.specs.Edition.{Edition}
-use Rattle.printer.specs.declared.Stop.{Stop}
-use Rattle.printer.specs.declared.Stop.the-variants.{Tabbed, Untabbed}
+use Rattle.sheet.specs.Form.{next-line}
+use Rattle.printer.specs.declared.NextTab.{NextTab}
+use Rattle.printer.specs.declared.NextTab.the-variants.{Tabbed, Untabbed}
 use Rattle.printer.specs.Machine.{no-tabs}
 use Rattle.printer.specs.Terminators.{first-tab}
 use Rattle.printer.proofs.Soundness.{SoundTabs}
@@ -33,12 +35,12 @@ module _ {lines : ℕ} {tabs : List Bool} (h : SoundTabs lines tabs) where
   tab-set on k l = record { inside = λ i t. set-inside on k l i (eqb i k) refl t }
 
 -- a stop is a line of the form
-abbrev pub Inside : ℕ → Stop → Type 0
+abbrev pub Inside : ℕ → NextTab → Type 0
 Inside lines (Tabbed n) = (1 ≤ n .0) × (n .0 ≤ lines)
 Inside lines Untabbed = Unit {0}
 
-pub first-tab-inside : (lines n : ℕ) (tabs : List Bool) → 1 ≤ n → ((i : ℕ) → T (getD tabs i false) → n + i ≤ lines) → Inside lines (first-tab n tabs)
+pub first-tab-inside : (lines : ℕ) (n : Line) (tabs : List Bool) → 1 ≤ n .0 → ((i : ℕ) → T (getD tabs i false) → n .0 + i ≤ lines) → Inside lines (first-tab n tabs)
 unfolding first-tab
 first-tab-inside lines n [] l h = tt
 first-tab-inside lines n (true ∷ ts) l h = (l, omega (arith, h 0 tt))
-first-tab-inside lines n (false ∷ ts) l h = first-tab-inside lines (n + 1) ts (omega arith) (λ i t. omega (arith, h (suc i) t))
+first-tab-inside lines n (false ∷ ts) l h = first-tab-inside lines (next-line n) ts (omega arith) (λ i t. omega (arith, h (suc i) t))

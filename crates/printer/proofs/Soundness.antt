@@ -17,7 +17,7 @@ use Rattle.printer.specs.declared.Head.{Head}
 use Rattle.printer.specs.declared.Pending.{Pending}
 use Rattle.printer.specs.declared.Pending.the-variants.{Nothing, Escape, Tabs, Reset, Select, SelectLow, CountHigh, CountLow, AddressHigh, AddressLow, Payload}
 use Rattle.printer.specs.declared.Printer.{Printer}
-use Rattle.printer.specs.Sound.{begun, form-sound, fresh-sound, load-sound, lone-escape, place-sound, plot-sound, sound, tabs-sound, untabbed}
+use Rattle.printer.specs.Sound.{begun, form-sound, fresh-sound, load-sound, at-most-escape, place-sound, plot-sound, sound, tabs-sound, untabbed}
 
 pub record SoundForm (e : Edition) (f : Form) : Type 0 where
   pub some : 1 ≤ f .lines
@@ -45,14 +45,14 @@ SoundLoad (CountHigh place) = Unit {0}
 SoundLoad (CountLow place high) = Unit {0}
 SoundLoad (AddressHigh place count) = Unit {0}
 SoundLoad (AddressLow place count high) = Unit {0}
-SoundLoad (Payload place load) = load .paid ≤ load .count
+SoundLoad (Payload place load) = load .taken ≤ load .count
 
 abbrev pub SoundPlace : ℕ → Begun → Type 0
 SoundPlace job Nowhere = Unit {0}
 SoundPlace job (At place) = place < job
 
 abbrev pub SoundPlot : Head → Pending → Type 0
-SoundPlot h q = T (h .plotting) → (h .plotted ≡ true) × (lone-escape q ≡ true)
+SoundPlot h q = T (h .plotting) → (h .plotted ≡ true) × (at-most-escape q ≡ true)
 
 -- the facts of a sound state
 pub record Sound (e : Edition) (p : Printer) : Type 0 where

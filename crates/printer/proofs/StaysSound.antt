@@ -14,7 +14,7 @@ use Rattle.sheet.specs.declared.Pitch.{Pitch}
 use Rattle.sheet.specs.declared.Row.{Row}
 use Rattle.sheet.specs.Dots.{struck}
 use Rattle.sheet.specs.Edition.{Edition}
-use Rattle.sheet.specs.Form.{fits, form-rows, line-of, lines-allowed, page-bytes, spacing-allowed, top}
+use Rattle.sheet.specs.Form.{first-line, fits, form-rows, line, lines-above, lines-through, next-line, line-of, lines-allowed, page-bytes, spacing-allowed, top}
 use Rattle.sheet.proofs.Struck.{length-struck}
 use Rattle.sheet.proofs.Units.{length-blank-page, length-empty-line, line-fits, line-inside, top-fits}
 use Rattle.glyph.specs.Entering.{or-in}
@@ -27,16 +27,16 @@ use Rattle.printer.specs.declared.Load.{Load}
 use Rattle.printer.specs.declared.Pending.{Pending}
 use Rattle.printer.specs.declared.Pending.the-variants.{Nothing, Escape, Tabs, Reset, Select, SelectLow, CountHigh, CountLow, AddressHigh, AddressLow, Payload}
 use Rattle.printer.specs.declared.Printer.{Printer}
-use Rattle.printer.specs.declared.Stop.{Stop}
-use Rattle.printer.specs.declared.Stop.the-variants.{Tabbed, Untabbed}
+use Rattle.printer.specs.declared.NextTab.{NextTab}
+use Rattle.printer.specs.declared.NextTab.the-variants.{Tabbed, Untabbed}
 use Rattle.printer.specs.Alone.{alone, text-byte}
-use Rattle.printer.specs.Bytes.{act, ended, paid, first-byte, payload-byte, run, second-byte, step, tab-byte, text-escape}
+use Rattle.printer.specs.Bytes.{act, ended, loaded, first-byte, payload-byte, run, second-byte, step, tab-byte, text-escape}
 use Rattle.printer.specs.Downloads.{download, out-of-range, replaced}
-use Rattle.printer.specs.Escapes.{after-reset, clear-tabs, elongate, escape, glyphs, in-turn, pitched, plot-on, reset, select, tab, tab-here, tab-item, underscore}
+use Rattle.printer.specs.Escapes.{after-reset, clear-tabs, set-elongated, escape, set-downloaded, in-turn, set-pitch, begin-plot, reset, select, tab, tab-here, tab-item, set-underscore}
 use Rattle.printer.specs.Machine.{Machine, fresh-head, opened, with-job, with-pending, with-staging}
-use Rattle.printer.specs.Plotting.{plot, plot-byte, plot-escape, plot-off}
+use Rattle.printer.specs.Plotting.{plot, plot-byte, plot-escape, leave-plot}
 use Rattle.printer.specs.Printing.{entered, moved-to, print}
-use Rattle.printer.specs.Sound.{begun, lone-escape}
+use Rattle.printer.specs.Sound.{begun, at-most-escape}
 use Rattle.printer.specs.Steps.{Step, tell, tell-step}
 use Rattle.printer.specs.Terminators.{carriage-return, current-line, form-feed, guarded, newline, strike, tab-to, vertical-tab}
 use Rattle.printer.proofs.Ready.{Fine, Ready, fine, fine-cond, fine-finished, fine-noted, fine-quiet, fine-test, length-empty-store}
@@ -94,7 +94,7 @@ module _ {e : Edition} {m : Machine} (h : Ready e m) where
   unfolding carriage-return
   carriage-return-fine = search (guarded-fine, fine, strike-ready, here-fits)
 
-  tab-to-fine : (below lowest : Stop) → Inside (form .lines) below → Inside (form .lines) lowest → Fine e (tab-to e below lowest m)
+  tab-to-fine : (below lowest : NextTab) → Inside (form .lines) below → Inside (form .lines) lowest → Fine e (tab-to e below lowest m)
   unfolding tab-to
   tab-to-fine (Tabbed n) lowest b l = fine-quiet (strike-ready _ (line-fits form n (b .0) (b .1)))
   tab-to-fine Untabbed (Tabbed n) b l = fine-finished (strike-ready _ (line-fits form n (l .0) (l .1)))
@@ -103,11 +103,11 @@ module _ {e : Edition} {m : Machine} (h : Ready e m) where
   vertical-tab-fine : Fine e (vertical-tab e m)
   unfolding vertical-tab
   vertical-tab-fine =
-      let n : ℕ = current-line m .0 in
+      let n : Line = current-line m in
       guarded-fine _
       (tab-to-fine _ _
-      (first-tab-inside (form .lines) (n + 1) (drop n (m .printer .tabs)) (omega arith) (λ i t. omega (arith, h .printer .tabs .inside (n + i) (rw getD-drop at t))))
-      (first-tab-inside (form .lines) 1 (m .printer .tabs) (omega arith) (λ i t. omega (arith, h .printer .tabs .inside i t))))
+      (first-tab-inside (form .lines) (next-line n) (drop (lines-through n) (m .printer .tabs)) (omega arith) (λ i t. omega (arith, h .printer .tabs .inside (lines-through n + i) (rw getD-drop at t))))
+      (first-tab-inside (form .lines) first-line (m .printer .tabs) (omega arith) (λ i t. omega (arith, h .printer .tabs .inside i t))))
 
   moved-sound : (c : ℕ) → c ≤ width → SoundHead form width (moved-to c (m .printer .head))
   moved-sound c l = record { row = h .printer .head .row; column = l; fresh = λ t. absurd t }
@@ -128,29 +128,29 @@ module _ {e : Edition} {m : Machine} (h : Ready e m) where
   unfolding in-turn
   in-turn-fine place after k = fine-test (m .printer .head .fresh) _ _ (λ q. fine-quiet (k (subst T (sym q) tt))) (λ _. fine-noted h)
 
-  elongate-ready : (on : Bool) → Ready e (elongate on m)
-  elongate-ready on = search
+  set-elongated-ready : (on : Bool) → Ready e (set-elongated on m)
+  set-elongated-ready on = search
 
-  underscore-ready : (on : Bool) → Ready e (underscore on m)
-  underscore-ready on = search
+  set-underscore-ready : (on : Bool) → Ready e (set-underscore on m)
+  set-underscore-ready on = search
 
-  glyphs-ready : (downloaded : Bool) → Ready e (glyphs downloaded m)
-  glyphs-ready downloaded = search
+  set-downloaded-ready : (on : Bool) → Ready e (set-downloaded on m)
+  set-downloaded-ready on = search
 
-  pitched-ready : (p : Pitch) → T (m .printer .head .fresh) → Ready e (pitched p m)
-  pitched-ready p t =
+  set-pitch-ready : (p : Pitch) → T (m .printer .head .fresh) → Ready e (set-pitch p m)
+  set-pitch-ready p t =
       let k : m .printer .head .column ≤ e .width p = omega (arith, h .printer .head .fresh t .0) in
       search (h .printer .head .fresh, h .printer .plot)
 
-  plot-on-ready : lone-escape (m .printer .pending) ≡ true → Ready e (plot-on m)
-  plot-on-ready q = search absurd
+  begin-plot-ready : at-most-escape (m .printer .pending) ≡ true → Ready e (begin-plot m)
+  begin-plot-ready q = search absurd
 
-  plot-off-ready : Ready e (plot-off m)
-  plot-off-ready = search (absurd, h .printer .head .fresh)
+  leave-plot-ready : Ready e (leave-plot m)
+  leave-plot-ready = search (absurd, h .printer .head .fresh)
 
   tab-ready : (on : Bool) (n : Line) → 1 ≤ n .0 → n .0 ≤ form .lines → Ready e (tab on n m)
   unfolding tab
-  tab-ready on n l k = let i : n .0 - 1 < form .lines = omega arith in search (tab-set (h .printer .tabs))
+  tab-ready on n l k = let i : lines-above n < form .lines = omega arith in search (tab-set (h .printer .tabs))
 
   tab-here-ready : (on : Bool) → Ready e (tab-here on m)
   unfolding tab-here line-of
@@ -160,7 +160,7 @@ module _ {e : Edition} {m : Machine} (h : Ready e m) where
   unfolding tab-item
   tab-item-fine n place =
       fine-test (leb 1 n && leb n (form .lines)) _ _
-      (λ q. let p = and-eq-true-iff (leb 1 n) (leb n (form .lines)) .0 q in fine-quiet (tab-ready true (record { 0 = n }) (leb-true _ _ (p .0)) (leb-true _ _ (p .1))))
+      (λ q. let p = and-eq-true-iff (leb 1 n) (leb n (form .lines)) .0 q in fine-quiet (tab-ready true (line n) (leb-true _ _ (p .0)) (leb-true _ _ (p .1))))
       (λ _. fine-noted h)
 
   clear-tabs-ready : Ready e (clear-tabs e m)
@@ -177,15 +177,15 @@ module _ {e : Edition} {m : Machine} (h : Ready e m) where
 
   select-fine : (high low place : ℕ) → Fine e (select high low place m)
   unfolding select
-  select-fine high low place = search (fine, glyphs-ready)
+  select-fine high low place = search (fine, set-downloaded-ready)
 
-  escape-fine : (b place : ℕ) → lone-escape (m .printer .pending) ≡ true → Fine e (escape b place m)
+  escape-fine : (b place : ℕ) → at-most-escape (m .printer .pending) ≡ true → Fine e (escape b place m)
   unfolding escape
-  escape-fine b place q = search (fine, tab-here-ready, elongate-ready, underscore-ready, glyphs-ready, in-turn-fine, pitched-ready, plot-on-ready) depth 20
+  escape-fine b place q = search (fine, tab-here-ready, set-elongated-ready, set-underscore-ready, set-downloaded-ready, in-turn-fine, set-pitch-ready, begin-plot-ready) depth 20
 
   plot-escape-fine : (b place : ℕ) → Fine e (plot-escape e b place m)
   unfolding plot-escape
-  plot-escape-fine b place = search (fine, plot-fine, plot-off-ready)
+  plot-escape-fine b place = search (fine, plot-fine, leave-plot-ready)
 
   alone-fine : (font : List ℕ) (b place : ℕ) → Fine e (alone e font b place m)
   unfolding alone text-byte plot-byte
@@ -247,12 +247,12 @@ module _ {e : Edition} {m : Machine} (h : Ready e m) where
   payload-byte-fine : (l : Load) (b place : ℕ) → place < m .printer .job → (T (m .printer .head .plotting) → ⊥) → Fine e (payload-byte l b place m)
   unfolding payload-byte
   payload-byte-fine l b place below off =
-      fine-test (ltb (l .paid) (l .count)) _ _
-      (λ q. fine-quiet (waiting-ready (staged-ready h (l .paid) b) (Payload place (paid l b)) (lt-add-one _ _ (ltb-true _ _ q)) below off))
+      fine-test (ltb (l .taken) (l .count)) _ _
+      (λ q. fine-quiet (waiting-ready (staged-ready h (l .taken) b) (Payload place (loaded l b)) (lt-add-one _ _ (ltb-true _ _ q)) below off))
       (λ _. download-fine (ended-ready h) _ _ _ _ _)
 
 -- no byte of a longer command comes in plot mode
-text-mode : {e : Edition} {p : Printer} → Sound e p → lone-escape (p .pending) ≡ false → T (p .head .plotting) → ⊥
+text-mode : {e : Edition} {p : Printer} → Sound e p → at-most-escape (p .pending) ≡ false → T (p .head .plotting) → ⊥
 text-mode h q t = true≢false (sym (h .plot t .1) ∙ q)
 
 module _ {e : Edition} (font : List ℕ) (b here : ℕ) (m : Machine) where

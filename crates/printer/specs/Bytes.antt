@@ -1,10 +1,11 @@
 -- The printer byte by byte, with the half command that it remembers.
-use Prim.Native.Nat.{ℕ, _+_, _*_, _%_}
+use Prim.Native.Nat.{ℕ, _+_, _%_}
 use mathlib.Core.Bool.{cond}
 use mathlib.Core.List.{List, [], _∷_}
 use lib.Dec.{eqb, ltb}
 use lib.ListN.{set}
 use Rattle.sheet.specs.Edition.{Edition}
+use Rattle.glyph.specs.Words.{high-first}
 use Rattle.printer.specs.declared.Load.{Load}
 use Rattle.printer.specs.declared.Pending.{Pending}
 use Rattle.printer.specs.declared.Pending.the-variants.{Nothing, Escape, Tabs, Reset, Select, SelectLow, CountHigh, CountLow, AddressHigh, AddressLow, Payload}
@@ -19,7 +20,7 @@ use Rattle.printer.specs.Steps.{Outcome, Step, quiet, silent, tell-step,
 abbrev pub waiting : Pending → Machine → Step
 waiting q m = quiet (with-pending q m)
 
--- a rule obeyed with the command's last byte
+-- nothing pending: the byte is the last of its command
 abbrev pub ended : Machine → Machine
 ended m = with-pending Nothing m
 
@@ -45,14 +46,14 @@ unfoldable pub tab-byte : ℕ → ℕ → Machine → Step
 tab-byte b here m = cond (eqb b 0) (quiet (ended m)) (tab-item b here m)
 
 -- a download with one payload byte more
-abbrev pub paid : Load → ℕ → Load
-paid l b = record { count = l .count; address = l .address; paid = l .paid + 1; sum = (l .sum + b) % 256 }
+abbrev pub loaded : Load → ℕ → Load
+loaded l b = record { count = l .count; address = l .address; taken = l .taken + 1; sum = (l .sum + b) % 256 }
 
--- a payload byte, staged as byte k of the payload; once all of it is there, the checksum
+-- a payload byte, staged behind those before it where that is below 2,048; once all of the payload is there, the checksum
 unfoldable pub payload-byte : Load → ℕ → ℕ → Machine → Step
 payload-byte l b place m =
-    cond (ltb (l .paid) (l .count))
-    (waiting (Payload place (paid l b)) (with-staging (set (m .staging) (l .paid) b) m))
+    cond (ltb (l .taken) (l .count))
+    (waiting (Payload place (loaded l b)) (with-staging (set (m .staging) (l .taken) b) m))
     (download (l .count) (l .address) (l .sum) b place (ended m))
 
 -- a byte that stands `here` in the job, by what is pending; the machine has the byte counted
@@ -64,9 +65,9 @@ act e font (Reset place) b here m = reset e b place (ended m)
 act e font (Select place) b here m = waiting (SelectLow place b) m
 act e font (SelectLow place high) b here m = select high b place (ended m)
 act e font (CountHigh place) b here m = waiting (CountLow place b) m
-act e font (CountLow place high) b here m = waiting (AddressHigh place (high * 256 + b)) m
+act e font (CountLow place high) b here m = waiting (AddressHigh place (high-first high b)) m
 act e font (AddressHigh place count) b here m = waiting (AddressLow place count b) m
-act e font (AddressLow place count high) b here m = waiting (Payload place (record { count = count; address = high * 256 + b; paid = 0; sum = 0 })) m
+act e font (AddressLow place count high) b here m = waiting (Payload place (record { count = count; address = high-first high b; taken = 0; sum = 0 })) m
 act e font (Payload place load) b here m = payload-byte load b place m
 
 -- one byte: it is counted, then acted on; places count from 0

@@ -1,10 +1,11 @@
 -- The whole job at once, as a list of commands, of which only the last may be unfinished.
-use Prim.Native.Nat.{ℕ, zero, suc, _+_, _-_, _*_, _%_}
+use Prim.Native.Nat.{ℕ, zero, suc, _+_, _-_, _%_}
 use mathlib.Core.Bool.{Bool, true, false, cond}
 use mathlib.Core.List.{List, [], _∷_}
 use lib.Dec.{eqb}
 use lib.ListN.{drop, length, take}
 use Rattle.sheet.specs.Edition.{Edition}
+use Rattle.glyph.specs.Words.{high-first}
 use Rattle.printer.specs.declared.Pending.the-variants.{Escape, Tabs, Reset, Select, SelectLow, CountHigh, CountLow, AddressHigh, AddressLow, Payload}
 use Rattle.printer.specs.Alone.{alone}
 use Rattle.printer.specs.Downloads.{download, stage, total}
@@ -30,24 +31,29 @@ pub data Cut : Type 0 where
 -- the items of a tab list and the bytes after its 00, where it has one
 pub data Items : Type 0 where
   listed : List ℕ → List ℕ → Items
-  endless : Items
+  unended : Items
 
+-- one item more before the others
 unfoldable pub item : ℕ → Items → Items
 item n (listed ns rest) = listed (n ∷ ns) rest
-item n endless = endless
+item n unended = unended
 
+-- the items that some bytes begin with, up to the first 00
 unfoldable pub items : List ℕ → Items
-items [] = endless
+items [] = unended
 items (b ∷ bs) = cond (eqb b 0) (listed [] bs) (item b (items bs))
 
+-- F n.. 00
 unfoldable pub cut-tabs : Items → Cut
 cut-tabs (listed ns rest) = whole (tab-list ns) rest
-cut-tabs endless = unfinished
+cut-tabs unended = unfinished
 
+-- c and a byte
 unfoldable pub cut-reset : List ℕ → Cut
 cut-reset [] = unfinished
 cut-reset (b ∷ rest) = whole (resetting b) rest
 
+-- N and two bytes
 unfoldable pub cut-select : List ℕ → Cut
 cut-select [] = unfinished
 cut-select (high ∷ []) = unfinished
@@ -65,8 +71,8 @@ cut-download (a ∷ []) = unfinished
 cut-download (a ∷ b ∷ []) = unfinished
 cut-download (a ∷ b ∷ c ∷ []) = unfinished
 cut-download (a ∷ b ∷ c ∷ d ∷ bs) =
-    let count : ℕ = a * 256 + b in
-    cut-checksum count (c * 256 + d) (take count bs) (drop count bs)
+    let count : ℕ = high-first a b in
+    cut-checksum count (high-first c d) (take count bs) (drop count bs)
 
 -- what follows an ESC; in plot mode every such command has one byte more
 unfoldable pub cut-escape : Bool → List ℕ → Cut
@@ -103,17 +109,19 @@ module _ (e : Edition) (font : List ℕ) where
   unfoldable pub leave-download : List ℕ → ℕ → Machine → Machine
   leave-download [] place m = with-pending (CountHigh place) m
   leave-download (a ∷ []) place m = with-pending (CountLow place a) m
-  leave-download (a ∷ b ∷ []) place m = with-pending (AddressHigh place (a * 256 + b)) m
-  leave-download (a ∷ b ∷ c ∷ []) place m = with-pending (AddressLow place (a * 256 + b) c) m
+  leave-download (a ∷ b ∷ []) place m = with-pending (AddressHigh place (high-first a b)) m
+  leave-download (a ∷ b ∷ c ∷ []) place m = with-pending (AddressLow place (high-first a b) c) m
   leave-download (a ∷ b ∷ c ∷ d ∷ bs) place m =
-      with-pending (Payload place (record { count = a * 256 + b; address = c * 256 + d; paid = length bs; sum = total bs % 256 }))
+      with-pending (Payload place (record { count = high-first a b; address = high-first c d; taken = length bs; sum = total bs % 256 }))
       (with-staging (stage 0 bs (m .staging)) m)
 
+  -- what a selection leaves that is not whole, by the bytes after its N
   unfoldable pub leave-select : List ℕ → ℕ → Machine → Machine
   leave-select [] place m = with-pending (Select place) m
   leave-select (high ∷ bs) place m = with-pending (SelectLow place high) m
 
-  -- what an unfinished command leaves, by the bytes after its ESC: a tab list half sent has already set its items
+  -- what an unfinished command leaves, by the bytes after its ESC, of which F, c, Y and N alone can be left so: a tab list half sent has already set
+  -- its items
   unfoldable pub leave : List ℕ → ℕ → Machine → Outcome
   leave [] place m = silent (with-pending (Escape place) m)
   leave (b ∷ bs) place m =
@@ -134,6 +142,6 @@ module _ (e : Edition) (font : List ℕ) where
   read (suc commands) [] m = silent m
   read (suc commands) (b ∷ bs) m = read-cut (read commands) (cut (m .printer .head .plotting) b bs) bs m
 
-  -- the whole job: it has no more commands than bytes
+  -- the whole job, read by a machine with nothing pending; it has no more commands than bytes
   unfoldable pub reading : List ℕ → Machine → Outcome
   reading job m = read (length job) job m

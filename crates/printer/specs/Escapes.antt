@@ -1,5 +1,5 @@
 -- The commands that ESC begins, but for the download. Document 01, "Bytes outside plot mode", the table.
-use Prim.Native.Nat.{ℕ, _-_}
+use Prim.Native.Nat.{ℕ}
 use mathlib.Core.Bool.{Bool, true, false, cond, _&&_}
 use lib.Dec.{eqb, leb}
 use lib.ListN.{set}
@@ -7,7 +7,7 @@ use Rattle.sheet.specs.declared.Line.{Line}
 use Rattle.sheet.specs.declared.Pitch.{Pitch}
 use Rattle.sheet.specs.declared.Pitch.the-variants.{Normal, Compressed}
 use Rattle.sheet.specs.Edition.{Edition}
-use Rattle.sheet.specs.Form.{empty-line}
+use Rattle.sheet.specs.Form.{empty-line, line, lines-above}
 use Rattle.printer.specs.declared.Fault.the-variants.{OutOfTurn, TabLine, UnknownCommand, WrongBytes}
 use Rattle.printer.specs.declared.Head.{Head}
 use Rattle.printer.specs.declared.Style.{Style}
@@ -17,7 +17,7 @@ use Rattle.printer.specs.Terminators.{current-line}
 
 -- the tab of a line set or cleared
 unfoldable pub tab : Bool → Line → Machine → Machine
-tab on n m = with-tabs (set (m .printer .tabs) (n .0 - 1) on) m
+tab on n m = with-tabs (set (m .printer .tabs) (lines-above n) on) m
 
 -- 5, 6: a vertical tab set or cleared at the current line
 unfoldable pub tab-here : Bool → Machine → Machine
@@ -29,35 +29,35 @@ clear-tabs e m = with-tabs (no-tabs e) m
 
 -- F: an item of the list, at its own place: n in 1..L is set; other n: note 48, skipped
 unfoldable pub tab-item : ℕ → ℕ → Machine → Step
-tab-item n place m = cond (leb 1 n && leb n (m .printer .form .lines)) (quiet (tab true (record { 0 = n }) m)) (noted TabLine place m)
+tab-item n place m = cond (leb 1 n && leb n (m .printer .form .lines)) (quiet (tab true (line n) m)) (noted TabLine place m)
 
 -- <, =: elongated on, off
-abbrev pub elongate : Bool → Machine → Machine
-elongate on m =
+abbrev pub set-elongated : Bool → Machine → Machine
+set-elongated on m =
     let s : Style = m .printer .style in
     with-style (record { pitch = s .pitch; elongated = on; underscore = s .underscore; downloaded = s .downloaded }) m
 
 -- a, b: underscore on, off
-abbrev pub underscore : Bool → Machine → Machine
-underscore on m =
+abbrev pub set-underscore : Bool → Machine → Machine
+set-underscore on m =
     let s : Style = m .printer .style in
     with-style (record { pitch = s .pitch; elongated = s .elongated; underscore = on; downloaded = s .downloaded }) m
 
--- downloaded or resident glyphs
-abbrev pub glyphs : Bool → Machine → Machine
-glyphs downloaded m =
+-- downloaded glyphs on, or off: resident glyphs
+abbrev pub set-downloaded : Bool → Machine → Machine
+set-downloaded on m =
     let s : Style = m .printer .style in
-    with-style (record { pitch = s .pitch; elongated = s .elongated; underscore = s .underscore; downloaded = downloaded }) m
+    with-style (record { pitch = s .pitch; elongated = s .elongated; underscore = s .underscore; downloaded = on }) m
 
 -- >, ?: compressed, normal
-abbrev pub pitched : Pitch → Machine → Machine
-pitched p m =
+abbrev pub set-pitch : Pitch → Machine → Machine
+set-pitch p m =
     let s : Style = m .printer .style in
     with-style (record { pitch = p; elongated = s .elongated; underscore = s .underscore; downloaded = s .downloaded }) m
 
 -- d: plot mode begins, and with it a plot line, which is not fresh
-abbrev pub plot-on : Machine → Machine
-plot-on m =
+abbrev pub begin-plot : Machine → Machine
+begin-plot m =
     let h : Head = m .printer .head in
     with-head (record { row = h .row; column = h .column; fresh = false; plotted = true; plotting = true }) m
 
@@ -75,20 +75,20 @@ reset e b place m = cond (eqb b 0) (quiet (after-reset e m)) (noted WrongBytes p
 
 -- N 04 00: downloaded glyphs; any other pair: note 46
 unfoldable pub select : ℕ → ℕ → ℕ → Machine → Step
-select high low place m = cond (eqb high 4 && eqb low 0) (quiet (glyphs true m)) (noted WrongBytes place m)
+select high low place m = cond (eqb high 4 && eqb low 0) (quiet (set-downloaded true m)) (noted WrongBytes place m)
 
--- ESC and a byte that is a whole command with it; any byte that document 01's table does not have: note 42
+-- ESC and one byte, which with it is a whole command, or unknown: note 42. (F, c, Y and N begin longer commands and do not come here.)
 unfoldable pub escape : ℕ → ℕ → Machine → Step
 escape b place m =
     cond (eqb b 0x35) (quiet (tab-here true m))
     (cond (eqb b 0x36) (quiet (tab-here false m))
-    (cond (eqb b 0x3c) (quiet (elongate true m))
-    (cond (eqb b 0x3d) (quiet (elongate false m))
-    (cond (eqb b 0x61) (quiet (underscore true m))
-    (cond (eqb b 0x62) (quiet (underscore false m))
-    (cond (eqb b 0x3e) (in-turn place m (pitched Compressed m))
-    (cond (eqb b 0x3f) (in-turn place m (pitched Normal m))
-    (cond (eqb b 0x64) (in-turn place m (plot-on m))
+    (cond (eqb b 0x3c) (quiet (set-elongated true m))
+    (cond (eqb b 0x3d) (quiet (set-elongated false m))
+    (cond (eqb b 0x61) (quiet (set-underscore true m))
+    (cond (eqb b 0x62) (quiet (set-underscore false m))
+    (cond (eqb b 0x3e) (in-turn place m (set-pitch Compressed m))
+    (cond (eqb b 0x3f) (in-turn place m (set-pitch Normal m))
+    (cond (eqb b 0x64) (in-turn place m (begin-plot m))
     (cond (eqb b 0x65) (quiet m)
-    (cond (eqb b 0x4f) (quiet (glyphs false m))
+    (cond (eqb b 0x4f) (quiet (set-downloaded false m))
     (noted UnknownCommand place m)))))))))))

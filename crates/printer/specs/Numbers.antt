@@ -24,7 +24,14 @@ pub record Report : Type 0 where
   pub number : ℕ
   pub values : List ℕ
 
--- a form finished is answer 1, a note answer 2
+-- 1: form finished
+abbrev pub form-report : Report
+form-report = record { number = 1; values = [] }
+
+-- 2: note, with number and place
+abbrev pub note-report : Fault → ℕ → Report
+note-report f place = record { number = 2; values = note-number f ∷ place ∷ [] }
+
 unfoldable pub told-report : Told → Report
-told-report (form page) = record { number = 1; values = [] }
-told-report (note f place) = record { number = 2; values = note-number f ∷ place ∷ [] }
+told-report (form page) = form-report
+told-report (note f place) = note-report f place

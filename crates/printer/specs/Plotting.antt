@@ -10,7 +10,7 @@ use Rattle.printer.specs.Machine.{Machine, with-head, with-line}
 use Rattle.printer.specs.Printing.{moved-to}
 use Rattle.printer.specs.Steps.{Step, noted, quiet}
 
--- a column of that value, bits 0 to 6, the bottom seven wires; at position W: note 44, dropped
+-- a column of that value, bits 0 to 6, the bottom seven wires; at position W: note 44, dropped. (A plot line is not fresh.)
 unfoldable pub plot : Edition → ℕ → ℕ → Machine → Step
 plot e v place m =
     let at : ℕ = m .printer .head .column in
@@ -19,15 +19,15 @@ plot e v place m =
     (noted LineFull place m)
 
 -- plot mode is left; the line stays a plot line
-abbrev pub plot-off : Machine → Machine
-plot-off m =
+abbrev pub leave-plot : Machine → Machine
+leave-plot m =
     let h : Head = m .printer .head in
     with-head (record { row = h .row; column = h .column; fresh = h .fresh; plotted = h .plotted; plotting = false }) m
 
--- a byte by itself: 00..7F enters a column, 80..FF: note 46
+-- a byte by itself, other than 1B: 00..7F enters a column, 80..FF: note 46
 unfoldable pub plot-byte : Edition → ℕ → ℕ → Machine → Step
 plot-byte e b place m = cond (ltb b 0x80) (plot e b place m) (noted HighByte place m)
 
 -- ESC and a byte: 1B 1B enters 1B, 1B 65 leaves, 1B with another byte: note 46
 unfoldable pub plot-escape : Edition → ℕ → ℕ → Machine → Step
-plot-escape e b place m = cond (eqb b 0x1b) (plot e 0x1b place m) (cond (eqb b 0x65) (quiet (plot-off m)) (noted WrongBytes place m))
+plot-escape e b place m = cond (eqb b 0x1b) (plot e 0x1b place m) (cond (eqb b 0x65) (quiet (leave-plot m)) (noted WrongBytes place m))

@@ -1,5 +1,5 @@
--- Which states are sound. Document 01, "What a call gives back". The job's length and a download's count and address are in range by their types,
--- u32 and u16.
+-- Which states are sound. Document 01, "What a call gives back". The job's length, and a download's count and address, are in range in every state that
+-- code can hold, by their types, u32 and u16; they need no test.
 use Prim.Native.Nat.{ℕ}
 use mathlib.Core.Bool.{Bool, true, false, not, _&&_, _||_}
 use mathlib.Core.List.{List, [], _∷_}
@@ -54,7 +54,7 @@ load-sound (CountHigh place) = true
 load-sound (CountLow place high) = true
 load-sound (AddressHigh place count) = true
 load-sound (AddressLow place count high) = true
-load-sound (Payload place load) = leb (load .paid) (load .count)
+load-sound (Payload place load) = leb (load .taken) (load .count)
 
 -- a started command's place is below the job length
 abbrev pub place-sound : ℕ → Begun → Bool
@@ -65,23 +65,23 @@ place-sound job (At place) = ltb place job
 unfoldable pub fresh-sound : Head → Bool
 fresh-sound h = not (h .fresh) || (eqb (h .column) 0 && not (h .plotted))
 
--- no command is begun but a lone ESC
-abbrev pub lone-escape : Pending → Bool
-lone-escape Nothing = true
-lone-escape (Escape place) = true
-lone-escape (Tabs place) = false
-lone-escape (Reset place) = false
-lone-escape (Select place) = false
-lone-escape (SelectLow place high) = false
-lone-escape (CountHigh place) = false
-lone-escape (CountLow place high) = false
-lone-escape (AddressHigh place count) = false
-lone-escape (AddressLow place count high) = false
-lone-escape (Payload place load) = false
+-- no command is begun, or none but a lone ESC
+abbrev pub at-most-escape : Pending → Bool
+at-most-escape Nothing = true
+at-most-escape (Escape place) = true
+at-most-escape (Tabs place) = false
+at-most-escape (Reset place) = false
+at-most-escape (Select place) = false
+at-most-escape (SelectLow place high) = false
+at-most-escape (CountHigh place) = false
+at-most-escape (CountLow place high) = false
+at-most-escape (AddressHigh place count) = false
+at-most-escape (AddressLow place count high) = false
+at-most-escape (Payload place load) = false
 
 -- plot mode holds only on a plot line, with no command begun but a lone ESC
 unfoldable pub plot-sound : Head → Pending → Bool
-plot-sound h q = not (h .plotting) || (h .plotted && lone-escape q)
+plot-sound h q = not (h .plotting) || (h .plotted && at-most-escape q)
 
 -- a state is sound
 unfoldable pub sound : Edition → Printer → Bool

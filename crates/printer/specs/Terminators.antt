@@ -1,5 +1,4 @@
 -- The line terminators. Document 01, "Bytes outside plot mode".
-use Prim.Native.Nat.{ℕ, _+_}
 use mathlib.Core.Bool.{Bool, cond}
 use mathlib.Core.List.{List, [], _∷_}
 use lib.ListN.{drop}
@@ -7,9 +6,9 @@ use Rattle.sheet.specs.declared.Line.{Line}
 use Rattle.sheet.specs.declared.Row.{Row}
 use Rattle.sheet.specs.Dots.{struck}
 use Rattle.sheet.specs.Edition.{Edition}
-use Rattle.sheet.specs.Form.{empty-line, first-row, fits, line-of, lower, rows-per-line, top}
-use Rattle.printer.specs.declared.Stop.{Stop}
-use Rattle.printer.specs.declared.Stop.the-variants.{Tabbed, Untabbed}
+use Rattle.sheet.specs.Form.{empty-line, first-line, first-row, fits, line-of, lines-through, lower, next-line, rows-per-line, top}
+use Rattle.printer.specs.declared.NextTab.{NextTab}
+use Rattle.printer.specs.declared.NextTab.the-variants.{Tabbed, Untabbed}
 use Rattle.printer.specs.Machine.{Machine, fresh-head, with-head, with-line, with-page}
 use Rattle.printer.specs.Steps.{Step, finished, guard, quiet}
 
@@ -17,14 +16,14 @@ use Rattle.printer.specs.Steps.{Step, finished, guard, quiet}
 abbrev pub current-line : Machine → Line
 current-line m = line-of (m .printer .form) (m .printer .head .row)
 
--- the guard: a terminator that meets r + 9 > L × R does nothing
+-- the guard: a terminator that meets r + 9 > L × R is not obeyed
 unfoldable pub guarded : Machine → Step → Step
 guarded m s = cond (fits (m .printer .form) (m .printer .head .row)) s (guard m)
 
 -- the first tabbed line of those whose tabs are given, the first of them line n
-unfoldable pub first-tab : ℕ → List Bool → Stop
+unfoldable pub first-tab : Line → List Bool → NextTab
 first-tab n [] = Untabbed
-first-tab n (t ∷ ts) = cond t (Tabbed (record { 0 = n })) (first-tab (n + 1) ts)
+first-tab n (t ∷ ts) = cond t (Tabbed n) (first-tab (next-line n) ts)
 
 module _ (e : Edition) where
   -- the line struck at the current row, its store zeroed, and the head on a fresh line at row r
@@ -44,17 +43,20 @@ module _ (e : Edition) where
   form-feed m = guarded m (finished (strike top m))
 
   -- 0D: no move
+  abbrev pub no-move : Machine → Step
+  no-move m = quiet (strike (m .printer .head .row) m)
+
   unfoldable pub carriage-return : Machine → Step
-  carriage-return m = guarded m (quiet (strike (m .printer .head .row) m))
+  carriage-return m = guarded m (no-move m)
 
   -- To the next tabbed line below. If tabs stand but none below: form finished, then the lowest-numbered tabbed line. With no tab: as 0D.
-  unfoldable pub tab-to : Stop → Stop → Machine → Step
+  unfoldable pub tab-to : NextTab → NextTab → Machine → Step
   tab-to (Tabbed n) lowest m = quiet (strike (first-row (m .printer .form) n) m)
   tab-to Untabbed (Tabbed n) m = finished (strike (first-row (m .printer .form) n) m)
-  tab-to Untabbed Untabbed m = quiet (strike (m .printer .head .row) m)
+  tab-to Untabbed Untabbed m = no-move m
 
   -- 0B: by the tabs below the current line, and by all of them
   unfoldable pub vertical-tab : Machine → Step
   vertical-tab m =
-      let n : ℕ = current-line m .0 in
-      guarded m (tab-to (first-tab (n + 1) (drop n (m .printer .tabs))) (first-tab 1 (m .printer .tabs)) m)
+      let n : Line = current-line m in
+      guarded m (tab-to (first-tab (next-line n) (drop (lines-through n) (m .printer .tabs))) (first-tab first-line (m .printer .tabs)) m)

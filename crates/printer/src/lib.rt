@@ -25,7 +25,7 @@ pub struct Style {
 pub struct Load {
     pub count: u16,
     pub address: u16,
-    pub paid: u16,
+    pub taken: u16,
     pub sum: u8,
 }
 
@@ -54,14 +54,14 @@ pub struct Printer {
     pub tabs: [bool; 99],
 }
 
-// Where the command that is pending began.
+// Where the pending command began: the place of its first byte.
 pub enum Begun {
     Nowhere,
     At(u32),
 }
 
 // The first of some lines that has a tab.
-pub enum Stop {
+pub enum NextTab {
     Tabbed(Line),
     Untabbed,
 }
@@ -91,7 +91,7 @@ pub enum Event {
 
 // What closing answers: the state is unsound, a command is unfinished that began at a place, the line is unprinted, or the job is clean.
 pub enum Closing {
-    Refused,
+    Unsound,
     Unfinished(u32),
     Unprinted,
     Clean,

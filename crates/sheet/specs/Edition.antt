@@ -1,4 +1,4 @@
--- What differs from one edition of the printer to another. Every rule takes an edition; `lp2` is document 01's.
+-- What differs from one edition of the printer to another. Each rule that rests on one takes the edition; `lp2` is document 01's.
 use Prim.Native.Nat.{ℕ, _*_}
 use Rattle.sheet.specs.declared.Grid.{Grid}
 use Rattle.sheet.specs.declared.Pitch.{Pitch}

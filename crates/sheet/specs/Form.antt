@@ -37,13 +37,31 @@ blank-page e f = replicate (page-bytes e f) 0
 unfoldable pub empty-line : Edition → List ℕ
 empty-line e = replicate (e .columns) 0
 
+-- line n; the first line
+abbrev pub line : ℕ → Line
+line n = record { 0 = n }
+
+abbrev pub first-line : Line
+first-line = line 1
+
+-- the line below a line
+abbrev pub next-line : Line → Line
+next-line n = line (n .0 + 1)
+
+-- how many lines stand above a line, and how many from the top through it
+abbrev pub lines-above : Line → ℕ
+lines-above n = n .0 - 1
+
+abbrev pub lines-through : Line → ℕ
+lines-through n = n .0
+
 -- the first row of a line
 unfoldable pub first-row : Form → Line → Row
-first-row f n = record { 0 = (n .0 - 1) * rows-per-line (f .spacing) }
+first-row f n = record { 0 = lines-above n * rows-per-line (f .spacing) }
 
 -- the line that a row lies in: 1 + r ÷ R, rounded down
 unfoldable pub line-of : Form → Row → Line
-line-of f r = record { 0 = 1 + r .0 / rows-per-line (f .spacing) }
+line-of f r = line (1 + r .0 / rows-per-line (f .spacing))
 
 -- the row that stands some rows lower
 abbrev pub lower : ℕ → Row → Row
