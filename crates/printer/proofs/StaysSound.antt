@@ -14,7 +14,7 @@ use Rattle.sheet.specs.declared.Pitch.{Pitch}
 use Rattle.sheet.specs.declared.Row.{Row}
 use Rattle.sheet.specs.Dots.{struck}
 use Rattle.sheet.specs.Edition.{Edition}
-use Rattle.sheet.specs.Form.{first-line, fits, form-rows, line, lines-above, lines-through, next-line, line-of, lines-allowed, page-bytes, spacing-allowed, top}
+use Rattle.sheet.specs.Form.{first-line, fits, has-line, form-rows, line, lines-above, lines-through, next-line, line-of, lines-allowed, page-bytes, spacing-allowed, top}
 use Rattle.sheet.proofs.Struck.{length-struck}
 use Rattle.sheet.proofs.Units.{length-blank-page, length-empty-line, line-fits, line-inside, top-fits}
 use Rattle.glyph.specs.Entering.{or-in}
@@ -49,6 +49,14 @@ lt-add-one a b h = omega arith
 or-false : (a b : Bool) → a || b ≡ false → (a ≡ false) × (b ≡ false)
 or-false true b q = absurd (true≢false q)
 or-false false b q = (refl, q)
+
+-- a download that is in range lies within the store
+in-range : (count address : ℕ) → out-of-range count address ≡ false → (2048 ≤ address) × (address + count ≤ 4096)
+unfolding out-of-range
+in-range count address q =
+    let low = or-false (ltb address 2048) _ q in
+    let high = or-false _ _ (low .1) in
+    (ltb-false _ _ (low .0), ltb-false _ _ (high .0))
 
 -- The rules.
 module _ {e : Edition} {m : Machine} (h : Ready e m) where
@@ -157,10 +165,10 @@ module _ {e : Edition} {m : Machine} (h : Ready e m) where
   tab-here-ready on = tab-ready on (current-line m) (omega arith) (line-inside form here here-fits)
 
   tab-item-fine : (n place : ℕ) → Fine e (tab-item n place m)
-  unfolding tab-item
+  unfolding tab-item has-line
   tab-item-fine n place =
-      fine-test (leb 1 n && leb n (form .lines)) _ _
-      (λ q. let p = and-eq-true-iff (leb 1 n) (leb n (form .lines)) .0 q in fine-quiet (tab-ready true (line n) (leb-true _ _ (p .0)) (leb-true _ _ (p .1))))
+      fine-test (has-line form n) _ _
+      (λ q. let p = and-eq-true-iff _ _ .0 q in fine-quiet (tab-ready true (line n) (leb-true _ _ (p .0)) (leb-true _ _ (p .1))))
       (λ _. fine-noted h)
 
   clear-tabs-ready : Ready e (clear-tabs e m)
@@ -192,15 +200,12 @@ module _ {e : Edition} {m : Machine} (h : Ready e m) where
   alone-fine font b place = search (fine, plot-fine, print-fine, newline-fine, vertical-tab-fine, form-feed-fine, carriage-return-fine) depth 20
 
   download-fine : (count address sum checksum place : ℕ) → Fine e (download count address sum checksum place m)
-  unfolding download out-of-range replaced
+  unfolding download replaced
   download-fine count address sum checksum place =
       fine-cond (not (eqb ((sum + checksum) % 256) 0)) _ _ (fine-noted h)
       (fine-test (out-of-range count address) _ _ (λ _. fine-noted h)
       (λ q.
-      let low = or-false (ltb address 2048) _ q in
-      let high = or-false (ltb 4096 (address + count)) _ (low .1) in
-      let from : 2048 ≤ address = ltb-false _ _ (low .0) in
-      let to : address + count ≤ 4096 = ltb-false _ _ (high .0) in
+      let inside = in-range count address q in
       let k : length (replaced (address - 2048) count (m .staging) (m .store)) ≡ 2048 =
       simp (length-append, length-take, length-drop) (omega (arith, h .memory .staging, h .memory .store)) in
       search fine))

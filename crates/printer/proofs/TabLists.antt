@@ -8,7 +8,7 @@ use native.Mathlib.Omega.{arith}
 use lib.Dec.{eqb, leb}
 use lib.ListN.{length}
 use Rattle.sheet.specs.Edition.{Edition}
-use Rattle.sheet.specs.Form.{line}
+use Rattle.sheet.specs.Form.{has-line, line}
 use Rattle.printer.specs.declared.Fault.the-variants.{TabLine}
 use Rattle.printer.specs.declared.Pending.{Pending}
 use Rattle.printer.specs.declared.Pending.the-variants.{Nothing, Tabs}
@@ -29,7 +29,7 @@ module _ (e : Edition) (n place j : ℕ) (q : Pending) (m : Machine) where
 
   item-at : tell-step e (tab-item n place (at j q m)) ≡ left-at j q (tell-step e (tab-item n place m))
   unfolding tab-item
-  item-at = item-at′ (leb 1 n && leb n (m .printer .form .lines))
+  item-at = item-at′ (has-line (m .printer .form) n)
 
 pub set-tabs-at : (e : Edition) (ns : List ℕ) (place j : ℕ) (q : Pending) (m : Machine) → set-tabs e ns place (at j q m) ≡ left-at j q (set-tabs e ns place m)
 unfolding set-tabs

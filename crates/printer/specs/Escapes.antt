@@ -1,13 +1,13 @@
 -- The commands that ESC begins, but for the download. Document 01, "Bytes outside plot mode", the table.
 use Prim.Native.Nat.{ℕ}
 use mathlib.Core.Bool.{Bool, true, false, cond, _&&_}
-use lib.Dec.{eqb, leb}
+use lib.Dec.{eqb}
 use lib.ListN.{set}
 use Rattle.sheet.specs.declared.Line.{Line}
 use Rattle.sheet.specs.declared.Pitch.{Pitch}
 use Rattle.sheet.specs.declared.Pitch.the-variants.{Normal, Compressed}
 use Rattle.sheet.specs.Edition.{Edition}
-use Rattle.sheet.specs.Form.{empty-line, line, lines-above}
+use Rattle.sheet.specs.Form.{empty-line, has-line, line, lines-above}
 use Rattle.printer.specs.declared.Fault.the-variants.{OutOfTurn, TabLine, UnknownCommand, WrongBytes}
 use Rattle.printer.specs.declared.Head.{Head}
 use Rattle.printer.specs.declared.Style.{Style}
@@ -29,7 +29,7 @@ clear-tabs e m = with-tabs (no-tabs e) m
 
 -- F: an item of the list, at its own place: n in 1..L is set; other n: note 48, skipped
 unfoldable pub tab-item : ℕ → ℕ → Machine → Step
-tab-item n place m = cond (leb 1 n && leb n (m .printer .form .lines)) (quiet (tab true (line n) m)) (noted TabLine place m)
+tab-item n place m = cond (has-line (m .printer .form) n) (quiet (tab true (line n) m)) (noted TabLine place m)
 
 -- <, =: elongated on, off
 abbrev pub set-elongated : Bool → Machine → Machine

@@ -37,6 +37,10 @@ blank-page e f = replicate (page-bytes e f) 0
 unfoldable pub empty-line : Edition → List ℕ
 empty-line e = replicate (e .columns) 0
 
+-- a form has a line n: n is in 1..L
+unfoldable pub has-line : Form → ℕ → Bool
+has-line f n = leb 1 n && leb n (f .lines)
+
 -- line n; the first line
 abbrev pub line : ℕ → Line
 line n = record { 0 = n }
