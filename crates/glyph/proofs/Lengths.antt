@@ -16,17 +16,17 @@ unfolding or-in
 length-or-in at wires line = length-set line at _
 
 module _ (glyphs : List ℕ) (n at : ℕ) (line : List ℕ) where
-  length-narrow : (k : ℕ) → length (enter-narrow k glyphs n at line) ≡ length line
+  pub length-narrow : (k : ℕ) → length (enter-narrow k glyphs n at line) ≡ length line
   unfolding enter-narrow
   length-narrow zero = refl
   length-narrow (suc k) = length-or-in _ _ _ ∙ length-narrow k
 
-  length-wide : (k : ℕ) → length (enter-wide k glyphs n at line) ≡ length line
+  pub length-wide : (k : ℕ) → length (enter-wide k glyphs n at line) ≡ length line
   unfolding enter-wide
   length-wide zero = refl
   length-wide (suc k) = length-or-in _ _ _ ∙ length-or-in _ _ _ ∙ length-wide k
 
-length-underscore : (k at : ℕ) (line : List ℕ) → length (underscore k at line) ≡ length line
+pub length-underscore : (k at : ℕ) (line : List ℕ) → length (underscore k at line) ≡ length line
 unfolding underscore
 length-underscore zero at line = refl
 length-underscore (suc k) at line = length-or-in _ _ _ ∙ length-underscore k at line

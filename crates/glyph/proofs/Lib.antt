@@ -1,2 +1,6 @@
--- What is true of glyphs.
+-- What is true of glyphs: which are well formed, what entering a character leaves, and LP2's "B" as an example.
 pub mod Lengths
+pub mod Turns
+pub mod WellFormed
+pub mod Cells
+pub mod CapitalB

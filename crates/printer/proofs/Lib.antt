@@ -13,3 +13,7 @@ pub mod SoundTabs
 pub mod StaysSound
 pub mod Pages
 pub mod Dots
+pub mod Copying
+pub mod TabTurns
+pub mod Rooms
+pub mod TextBytes

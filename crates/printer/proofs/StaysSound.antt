@@ -51,7 +51,7 @@ or-false true b q = absurd (true≢false q)
 or-false false b q = (refl, q)
 
 -- a download that is in range lies within the store
-in-range : (count address : ℕ) → out-of-range count address ≡ false → (2048 ≤ address) × (address + count ≤ 4096)
+pub in-range : (count address : ℕ) → out-of-range count address ≡ false → (2048 ≤ address) × (address + count ≤ 4096)
 unfolding out-of-range
 in-range count address q =
     let low = or-false (ltb address 2048) _ q in

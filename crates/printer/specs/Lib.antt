@@ -13,5 +13,7 @@ pub mod Downloads
 pub mod Alone
 pub mod Bytes
 pub mod Commands
+pub mod Given
+pub mod Room
 pub mod Strikes
 pub mod Table

@@ -66,6 +66,12 @@ pub enum NextTab {
     Untabbed,
 }
 
+// What came of a byte or a command: the state after it, and the event.
+pub struct Stepped {
+    pub printer: Printer,
+    pub event: Event,
+}
+
 // Why a byte or a command can't be obeyed.
 pub enum Fault {
     UnknownCommand,
@@ -96,3 +102,12 @@ pub enum Closing {
     Unprinted,
     Clean,
 }
+
+pub mod bytes;
+mod commands;
+mod downloads;
+mod parts;
+mod plotting;
+mod printing;
+pub mod state;
+mod terminators;

@@ -1,12 +1,13 @@
 -- The lines of a form and its rows, and the lengths of a blank page and an empty line.
 use Prim.Native.Nat.{ℕ, suc, _+_, _-_, _*_, _/_, _≤_, _<_}
-use mathlib.Core.Path.{_≡_, ap}
+use mathlib.Core.Path.{_≡_, sym, ap, _∙_}
 use mathlib.Core.Bool.{Bool, true, false, cond}
 use native.Mathlib.Omega.{arith}
-use native.Mathlib.Nat.{mul-le-mul-right, div-lt-iff-lt-mul, mul-div-cancel, zero-mul}
-use lib.Dec.{eqb}
+use native.Mathlib.Nat.{mul-le-mul-left, mul-le-mul-right, div-lt-iff-lt-mul, mul-div-cancel, zero-mul}
+use native.Mathlib.Decide.{decLe}
+use lib.Dec.{eqb, leb}
 use lib.ListN.{length, length-replicate}
-use borrow.Author.Tests.{leb-true, le-leb}
+use borrow.Author.Tests.{leb-true, le-leb, lt-leb}
 use Rattle.sheet.specs.declared.Form.{Form}
 use Rattle.sheet.specs.declared.Line.{Line}
 use Rattle.sheet.specs.declared.Row.{Row}
@@ -21,6 +22,48 @@ nine-rows spacing = either (eqb spacing 6)
     either : (six : Bool) → 9 ≤ cond six 12 9
     either true = omega arith
     either false = omega arith
+
+-- a line has twelve rows at most
+pub twelve-rows : (spacing : ℕ) → rows-per-line spacing ≤ 12
+unfolding rows-per-line
+twelve-rows spacing = either (eqb spacing 6)
+  where
+    either : (six : Bool) → cond six 12 9 ≤ 12
+    either true = omega arith
+    either false = omega arith
+
+-- a form of up to 99 lines has 1,188 rows at most
+pub form-rows-most : (f : Form) → f .lines ≤ 99 → form-rows f ≤ 1188
+unfolding form-rows
+form-rows-most f h = omega (arith, mul-le-mul-right (rows-per-line (f .spacing)) h, twelve-rows (f .spacing))
+
+-- a line up to line 99 has its first row at 1,176 at most
+pub first-row-most : (f : Form) (n : Line) → n .0 ≤ 99 → first-row f n .0 ≤ 1176
+unfolding first-row
+first-row-most f n h =
+    let above : n .0 - 1 ≤ 98 = omega arith in
+    omega (arith, mul-le-mul-right (rows-per-line (f .spacing)) above, twelve-rows (f .spacing))
+
+-- the line of row r is at most 1 + r ÷ 9
+pub line-most : (f : Form) (r : Row) → line-of f r .0 ≤ 1 + r .0 / 9
+unfolding line-of
+line-most f r =
+    let rows : ℕ = rows-per-line (f .spacing) in
+    let nine : 9 ≤ rows = nine-rows (f .spacing) in
+    let below : (r .0 / 9 + 1) * 9 ≤ (r .0 / 9 + 1) * rows = mul-le-mul-left (r .0 / 9 + 1) nine in
+    omega (arith, div-lt-iff-lt-mul {k = rows} {x = r .0} {y = r .0 / 9 + 1} (omega arith) .1 (omega arith))
+
+-- that nine rows from a row on stay within some rows, tested without their sum
+pub room : (r rows : ℕ) → 9 ≤ rows → leb r (rows - 9) ≡ leb (r + 9) rows
+room r rows h = either (decLe r (rows - 9))
+  where
+    either : Dec (r ≤ rows - 9) → leb r (rows - 9) ≡ leb (r + 9) rows
+    either (yes p) = le-leb r (rows - 9) p ∙ sym (le-leb (r + 9) rows (omega arith))
+    either (no p) = lt-leb r (rows - 9) (omega arith) ∙ sym (lt-leb (r + 9) rows (omega arith))
+
+-- where there are fewer than nine rows there is no room
+pub no-room : (r rows : ℕ) → rows < 9 → leb 9 rows ≡ leb (r + 9) rows
+no-room r rows h = lt-leb 9 rows h ∙ sym (lt-leb (r + 9) rows (omega arith))
 
 -- the first row of a line lies in that line
 pub line-of-first-row : (f : Form) (n : Line) → 1 ≤ n .0 → line-of f (first-row f n) ≡ n

@@ -20,3 +20,6 @@ pub enum Pitch {
     Normal,
     Compressed,
 }
+
+pub mod sizes;
+pub mod strike;

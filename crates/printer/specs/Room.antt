@@ -1,0 +1,38 @@
+-- What the functions of src/ ask of the state and of what they are lent. A sound state with memory of its lengths has it all.
+use Prim.Native.Nat.{ℕ, _≤_}
+use mathlib.Core.List.{List}
+use mathlib.Core.Path.{_≡_}
+use lib.ListN.{length}
+use Rattle.sheet.specs.Edition.{lp2}
+use Rattle.sheet.specs.Form.{page-bytes}
+use Rattle.printer.specs.declared.NextTab.{NextTab}
+use Rattle.printer.specs.declared.NextTab.the-variants.{Tabbed, Untabbed}
+use Rattle.printer.specs.declared.Printer.{Printer}
+
+-- to enter a character
+pub record Writable (p : Printer) (ln st font : List ℕ) : Type 0 where
+  pub column : p .head .column ≤ 2200
+  pub line : length ln ≡ 2200
+  pub store : length st ≡ 2048
+  pub resident : length font ≡ 2048
+
+-- to strike a line
+pub record Strikable (p : Printer) (pg ln : List ℕ) : Type 0 where
+  pub lines : p .form .lines ≤ 99
+  pub page : length pg ≡ page-bytes lp2 (p .form)
+  pub line : length ln ≡ 2200
+
+-- to obey any byte
+pub record Room (p : Printer) (pg ln sg st font : List ℕ) : Type 0 where
+  pub lines : p .form .lines ≤ 99
+  pub column : p .head .column ≤ 2200
+  pub page : length pg ≡ page-bytes lp2 (p .form)
+  pub line : length ln ≡ 2200
+  pub staging : length sg ≡ 2048
+  pub store : length st ≡ 2048
+  pub resident : length font ≡ 2048
+
+-- a tabbed line that was found is one that the state has a place for
+abbrev pub Kept : NextTab → Type 0
+Kept (Tabbed n) = (1 ≤ n .0) × (n .0 ≤ 99)
+Kept Untabbed = Unit {0}

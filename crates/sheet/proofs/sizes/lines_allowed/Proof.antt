@@ -1,0 +1,17 @@
+-- `sizes::lines_allowed` meets its contract.
+use borrow.Author.Tests.{le-leb, lt-leb}
+use Rattle.sheet.specs.Edition.{lp2}
+use Rattle.sheet.specs.Form.{lines-allowed}
+use Rattle.sheet.proofs.sizes.lines_allowed.Statement.{statement}
+use Rattle.sheet.proofs.sizes.lines_allowed.Tie as tie
+
+returns : tie.Need-returns
+unfolding lines-allowed lp2
+returns c = simp (le-leb 1 _ (c .if1 .taken))
+
+returns-2 : tie.Need-returns-2
+unfolding lines-allowed lp2
+returns-2 c = simp (lt-leb 1 _ (c .if1 .left))
+
+pub lines-allowed-spec : {M : Type 1} → statement M
+lines-allowed-spec = tie.close (tie.spec returns returns-2)
