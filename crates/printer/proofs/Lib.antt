@@ -13,7 +13,4 @@ pub mod SoundTabs
 pub mod StaysSound
 pub mod Pages
 pub mod Dots
-pub mod Copying
 pub mod TabTurns
-pub mod Rooms
-pub mod TextBytes

@@ -102,12 +102,3 @@ pub enum Closing {
     Unprinted,
     Clean,
 }
-
-pub mod bytes;
-mod commands;
-mod downloads;
-mod parts;
-mod plotting;
-mod printing;
-pub mod state;
-mod terminators;

@@ -1,0 +1,2 @@
+-- What the terminators rest on.
+pub mod Rooms

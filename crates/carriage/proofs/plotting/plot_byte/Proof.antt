@@ -1,0 +1,17 @@
+use borrow.Author.Needs.{needs}
+use mathlib.Core.Path.{_∙_}
+use borrow.Author.Tests.{le-ltb, lt-ltb}
+use Rattle.printer.specs.Plotting.{plot-byte}
+use Rattle.carriage.proofs.plotting.plot_byte.Statement.{statement}
+use Rattle.carriage.proofs.plotting.plot_byte.Tie as tie
+
+returns : tie.Need-returns
+unfolding plot-byte
+returns c page staging store = c .before .before .plot .ensures page staging store ∙ simp (lt-ltb _ _ (c .before .before .before .before .if1 .taken))
+
+returns-2 : tie.Need-returns-2
+unfolding plot-byte
+returns-2 c page staging store = simp (c .noted .ensures, le-ltb _ _ (c .before .if1 .left))
+
+pub plot-byte-spec : {M : Type 1} → statement M
+plot-byte-spec = tie.close (tie.spec (λ c κs. search needs) (λ c κs. search needs) (λ c. search needs) returns returns-2)

@@ -1,0 +1,57 @@
+// Plot mode.
+ghost use mathlib.Core.Path.{_≡_};
+ghost use mathlib.Core.List.{List};
+ghost use Prim.Native.Nat.{ℕ};
+ghost use lib.ListN.{length};
+ghost use Rattle.sheet.specs.Edition.{lp2};
+ghost use Rattle.printer.specs.Given.{given, machine};
+ghost use Rattle.printer.specs.Plotting.{plot, plot-byte, plot-escape};
+use glyph::entering::or_in;
+use printer::Fault;
+use printer::Printer;
+use printer::Stepped;
+use sheet::sizes::width;
+use state::parts::leave_plot;
+use state::parts::moved_to;
+use state::parts::noted;
+use state::parts::quiet;
+
+// A plotted column.
+fn plot(p: Printer, v: u8, place: u32, line: &mut [u16]) -> Stepped
+    requires { ⌜ length (now line) ≡ 2200 ⌝ }
+    ensures { λ r. ⌜ ((page staging store : List ℕ) → given r page (now (line .exit)) staging store ≡ plot lp2 v place (machine p page (now (line .entry)) staging store)) ⌝ }
+{
+    let style = p.style;
+    let pitch = style.pitch;
+    let at = p.head.column;
+    if at < width(pitch) {
+        or_in(line, at, v as u16);
+        quiet(moved_to(p, at + 1))
+    } else {
+        noted(p, Fault::LineFull, place)
+    }
+}
+
+// A byte by itself, other than 1B.
+pub fn plot_byte(p: Printer, b: u8, place: u32, line: &mut [u16]) -> Stepped
+    requires { ⌜ length (now line) ≡ 2200 ⌝ }
+    ensures { λ r. ⌜ ((page staging store : List ℕ) → given r page (now (line .exit)) staging store ≡ plot-byte lp2 b place (machine p page (now (line .entry)) staging store)) ⌝ }
+{
+    if b < 0x80 {
+        plot(p, b, place, line)
+    } else {
+        noted(p, Fault::HighByte, place)
+    }
+}
+
+// ESC and a byte.
+pub fn plot_escape(p: Printer, b: u8, place: u32, line: &mut [u16]) -> Stepped
+    requires { ⌜ length (now line) ≡ 2200 ⌝ }
+    ensures { λ r. ⌜ ((page staging store : List ℕ) → given r page (now (line .exit)) staging store ≡ plot-escape lp2 b place (machine p page (now (line .entry)) staging store)) ⌝ }
+{
+    match b {
+        0x1b => plot(p, 0x1b, place, line),
+        0x65 => quiet(leave_plot(p)),
+        _ => noted(p, Fault::WrongBytes, place),
+    }
+}

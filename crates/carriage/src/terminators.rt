@@ -1,0 +1,144 @@
+// The line terminators.
+ghost use mathlib.Core.Path.{_≡_};
+ghost use mathlib.Core.Bool.{cond};
+ghost use mathlib.Core.List.{List};
+ghost use Prim.Native.Nat.{ℕ, _+_, _*_, _≤_};
+ghost use lib.ListN.{drop, length};
+ghost use Rattle.sheet.specs.Edition.{lp2};
+ghost use Rattle.sheet.specs.Form.{line, rows-per-line};
+ghost use Rattle.printer.specs.Given.{given, machine};
+ghost use Rattle.printer.specs.Room.{Kept, Strikable};
+ghost use Rattle.printer.specs.Terminators.{carriage-return, first-tab, form-feed, newline, strike, tab-to, vertical-tab};
+use printer::NextTab;
+use printer::Printer;
+use printer::Stepped;
+use sheet::Line;
+use sheet::Row;
+use sheet::sizes::first_row;
+use sheet::sizes::fits;
+use sheet::sizes::line_of;
+use sheet::sizes::lower;
+use sheet::sizes::rows_per_line;
+use state::parts::finished;
+use state::parts::fresh;
+use state::parts::guard;
+use state::parts::quiet;
+
+// Strikes the line in progress at the current row; the head goes to a fresh line at row `next`.
+fn strike(p: Printer, next: Row, page: &mut [u8], line: &mut [u16]) -> Printer
+    requires { ⌜ ((p .head .row .0 + 9) * 825 ≤ length (now page)) × (length (now line) ≡ 2200) ⌝ }
+    ensures { λ r. ⌜ ((staging store : List ℕ) → machine r (now (page .exit)) (now (line .exit)) staging store ≡ strike lp2 next (machine p (now (page .entry)) (now (line .entry)) staging store)) ⌝ }
+{
+    let row = p.head.row;
+    let style = p.style;
+    let pitch = style.pitch;
+    sheet::strike::strike(page, line, row, pitch);
+    fresh(p, next)
+}
+
+// The rows that a newline moves down.
+fn advance(p: Printer) -> usize
+    ensures { λ r. ⌜ (r ≡ cond (p .head .plotted) 7 (rows-per-line (p .form .spacing))) × (r ≤ 12) ⌝ }
+{
+    if p.head.plotted {
+        7
+    } else {
+        let form = p.form;
+        rows_per_line(form.spacing)
+    }
+}
+
+// 0A.
+pub fn newline(p: Printer, page: &mut [u8], line: &mut [u16]) -> Stepped
+    requires { ⌜ Strikable p (now page) (now line) ⌝ }
+    ensures { λ r. ⌜ ((staging store : List ℕ) → given r (now (page .exit)) (now (line .exit)) staging store ≡ newline lp2 (machine p (now (page .entry)) (now (line .entry)) staging store)) ⌝ }
+{
+    let form = p.form;
+    let row = p.head.row;
+    if !fits(form, row) {
+        return guard(p);
+    }
+    let next = lower(row, advance(p));
+    if fits(form, next) {
+        quiet(strike(p, next, page, line))
+    } else {
+        finished(strike(p, Row(0), page, line))
+    }
+}
+
+// 0C.
+pub fn form_feed(p: Printer, page: &mut [u8], line: &mut [u16]) -> Stepped
+    requires { ⌜ Strikable p (now page) (now line) ⌝ }
+    ensures { λ r. ⌜ ((staging store : List ℕ) → given r (now (page .exit)) (now (line .exit)) staging store ≡ form-feed lp2 (machine p (now (page .entry)) (now (line .entry)) staging store)) ⌝ }
+{
+    let form = p.form;
+    let row = p.head.row;
+    if fits(form, row) {
+        finished(strike(p, Row(0), page, line))
+    } else {
+        guard(p)
+    }
+}
+
+// 0D.
+pub fn carriage_return(p: Printer, page: &mut [u8], line: &mut [u16]) -> Stepped
+    requires { ⌜ Strikable p (now page) (now line) ⌝ }
+    ensures { λ r. ⌜ ((staging store : List ℕ) → given r (now (page .exit)) (now (line .exit)) staging store ≡ carriage-return lp2 (machine p (now (page .entry)) (now (line .entry)) staging store)) ⌝ }
+{
+    let form = p.form;
+    let row = p.head.row;
+    if fits(form, row) {
+        quiet(strike(p, row, page, line))
+    } else {
+        guard(p)
+    }
+}
+
+// The first tabbed line of those below the first `above`.
+fn first_tab(p: Printer, above: usize) -> NextTab
+    requires { ⌜ above ≤ 2000 ⌝ }
+    ensures { λ r. ⌜ (r ≡ first-tab (line (above + 1)) (drop above (p .tabs))) × Kept r ⌝ }
+{
+    let mut i = above;
+    while i < 99 {
+        if p.tabs[i] {
+            return NextTab::Tabbed(Line(i + 1));
+        }
+        i += 1;
+    }
+    NextTab::Untabbed
+}
+
+// To the tabbed line below, to the lowest-numbered on the next form, or nowhere.
+fn tab_to(p: Printer, below: NextTab, lowest: NextTab, page: &mut [u8], line: &mut [u16]) -> Stepped
+    requires { ⌜ ((p .head .row .0 + 9) * 825 ≤ length (now page)) × (length (now line) ≡ 2200) × Kept below × Kept lowest ⌝ }
+    ensures { λ r. ⌜ ((staging store : List ℕ) → given r (now (page .exit)) (now (line .exit)) staging store ≡ tab-to lp2 below lowest (machine p (now (page .entry)) (now (line .entry)) staging store)) ⌝ }
+{
+    let form = p.form;
+    match below {
+        NextTab::Tabbed(n) => quiet(strike(p, first_row(form, n), page, line)),
+        NextTab::Untabbed => match lowest {
+            NextTab::Tabbed(n) => finished(strike(p, first_row(form, n), page, line)),
+            NextTab::Untabbed => {
+                let row = p.head.row;
+                quiet(strike(p, row, page, line))
+            }
+        },
+    }
+}
+
+// 0B.
+pub fn vertical_tab(p: Printer, page: &mut [u8], line: &mut [u16]) -> Stepped
+    requires { ⌜ Strikable p (now page) (now line) ⌝ }
+    ensures { λ r. ⌜ ((staging store : List ℕ) → given r (now (page .exit)) (now (line .exit)) staging store ≡ vertical-tab lp2 (machine p (now (page .entry)) (now (line .entry)) staging store)) ⌝ }
+{
+    let form = p.form;
+    let row = p.head.row;
+    if !fits(form, row) {
+        return guard(p);
+    }
+    let current = line_of(form, row);
+    let below = first_tab(p, current.0);
+    let lowest = first_tab(p, 0);
+    tab_to(p, below, lowest, page, line)
+}

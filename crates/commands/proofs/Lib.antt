@@ -1,0 +1,2 @@
+-- What downloads rest on.
+pub mod Copying

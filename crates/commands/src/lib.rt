@@ -1,0 +1,3 @@
+// The commands that ESC begins: tabs, features, reset, selection and downloads.
+pub mod downloads;
+pub mod escapes;

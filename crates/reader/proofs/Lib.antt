@@ -1,0 +1,2 @@
+-- What a byte outside plot mode is.
+pub mod TextBytes

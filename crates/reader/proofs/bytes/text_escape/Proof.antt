@@ -1,0 +1,30 @@
+use borrow.Author.Needs.{needs}
+use mathlib.Core.Path.{_∙_}
+use borrow.Author.Tests.{ne-eqb}
+use Rattle.printer.specs.Bytes.{text-escape}
+use Rattle.printer.specs.Escapes.{clear-tabs}
+use Rattle.reader.proofs.bytes.text_escape.Statement.{statement}
+use Rattle.reader.proofs.bytes.text_escape.Tie as tie
+
+returns : tie.Need-returns
+unfolding text-escape clear-tabs
+returns c m = c .waiting .ensures m ∙ simp (c .before .clear-tabs .ensures, c .before .before .match .keys1)
+
+returns-2 : tie.Need-returns-2
+unfolding text-escape clear-tabs
+returns-2 c m = c .waiting2 .ensures m ∙ simp (c .before .match .keys2)
+
+returns-3 : tie.Need-returns-3
+unfolding text-escape clear-tabs
+returns-3 c m = c .waiting3 .ensures m ∙ simp (c .before .match .keys3)
+
+returns-4 : tie.Need-returns-4
+unfolding text-escape clear-tabs
+returns-4 c m = c .waiting4 .ensures m ∙ simp (c .before .match .keys4)
+
+returns-5 : tie.Need-returns-5
+unfolding text-escape clear-tabs
+returns-5 c m = c .escape .ensures m ∙ simp (c .before .with-pending .ensures, ne-eqb _ _ (c .before .before .match .rest .1), ne-eqb _ _ (c .before .before .match .rest .0 .1), ne-eqb _ _ (c .before .before .match .rest .0 .0 .1), ne-eqb _ _ (c .before .before .match .rest .0 .0 .0 .1))
+
+pub text-escape-spec : {M : Type 1} → statement M
+text-escape-spec = tie.close (tie.spec (λ c κs. search needs) (λ c κs. search needs) (λ c κs. search needs) (λ c κs. search needs) (λ c κs. search needs) (λ c κs. search needs) (λ c κs. search needs) returns returns-2 returns-3 returns-4 returns-5)

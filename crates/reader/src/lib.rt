@@ -1,0 +1,2 @@
+// The reader: one byte of a job, by what is pending.
+pub mod bytes;

@@ -1,0 +1,170 @@
+// Which states are sound, and what is said of a job that is closed.
+ghost use mathlib.Core.Path.{_≡_};
+ghost use Prim.Native.Nat.{_≤_};
+ghost use Rattle.sheet.specs.Edition.{lp2};
+ghost use Rattle.printer.specs.Closing.{closing};
+ghost use Rattle.printer.specs.Sound.{at-most-escape, begun, form-sound, fresh-sound, load-sound, place-sound, plot-sound, sound, tabs-sound};
+use printer::Begun;
+use printer::Closing;
+use printer::Head;
+use printer::Pending;
+use printer::Printer;
+use sheet::Form;
+use sheet::sizes::fits;
+use sheet::sizes::lines_allowed;
+use sheet::sizes::spacing_allowed;
+use sheet::sizes::width;
+
+// Where the pending command began.
+fn begun(pending: Pending) -> Begun
+    ensures { λ r. ⌜ r ≡ begun pending ⌝ }
+{
+    match pending {
+        Pending::Nothing => Begun::Nowhere,
+        Pending::Escape(place) => Begun::At(place),
+        Pending::Tabs(place) => Begun::At(place),
+        Pending::Reset(place) => Begun::At(place),
+        Pending::Select(place) => Begun::At(place),
+        Pending::SelectLow(place, _) => Begun::At(place),
+        Pending::CountHigh(place) => Begun::At(place),
+        Pending::CountLow(place, _) => Begun::At(place),
+        Pending::AddressHigh(place, _) => Begun::At(place),
+        Pending::AddressLow(place, _, _) => Begun::At(place),
+        Pending::Payload(place, _) => Begun::At(place),
+    }
+}
+
+fn form_sound(form: Form) -> bool
+    ensures { λ r. ⌜ r ≡ form-sound lp2 form ⌝ }
+{
+    lines_allowed(form.lines) && spacing_allowed(form.spacing)
+}
+
+// Tabs lie on lines of the form.
+fn tabs_sound(p: Printer) -> bool
+    ensures { λ r. ⌜ r ≡ tabs-sound (p .form) (p .tabs) ⌝ }
+{
+    let mut i = p.form.lines;
+    while i < 99 {
+        if p.tabs[i] {
+            return false;
+        }
+        i += 1;
+    }
+    true
+}
+
+// No more payload is taken than counted.
+fn load_sound(pending: Pending) -> bool
+    ensures { λ r. ⌜ r ≡ load-sound pending ⌝ }
+{
+    match pending {
+        Pending::Payload(_, load) => load.taken <= load.count,
+        Pending::Nothing => true,
+        Pending::Escape(_) => true,
+        Pending::Tabs(_) => true,
+        Pending::Reset(_) => true,
+        Pending::Select(_) => true,
+        Pending::SelectLow(_, _) => true,
+        Pending::CountHigh(_) => true,
+        Pending::CountLow(_, _) => true,
+        Pending::AddressHigh(_, _) => true,
+        Pending::AddressLow(_, _, _) => true,
+    }
+}
+
+// A started command's place is below the job length.
+fn place_sound(job: u32, started: Begun) -> bool
+    ensures { λ r. ⌜ r ≡ place-sound job started ⌝ }
+{
+    match started {
+        Begun::Nowhere => true,
+        Begun::At(place) => place < job,
+    }
+}
+
+// A fresh line is at column 0 and no plot line.
+fn fresh_sound(head: Head) -> bool
+    ensures { λ r. ⌜ r ≡ fresh-sound head ⌝ }
+{
+    !head.fresh || (head.column == 0 && !head.plotted)
+}
+
+// No command is begun, or none but a lone ESC.
+fn at_most_escape(pending: Pending) -> bool
+    ensures { λ r. ⌜ r ≡ at-most-escape pending ⌝ }
+{
+    match pending {
+        Pending::Nothing => true,
+        Pending::Escape(_) => true,
+        Pending::Tabs(_) => false,
+        Pending::Reset(_) => false,
+        Pending::Select(_) => false,
+        Pending::SelectLow(_, _) => false,
+        Pending::CountHigh(_) => false,
+        Pending::CountLow(_, _) => false,
+        Pending::AddressHigh(_, _) => false,
+        Pending::AddressLow(_, _, _) => false,
+        Pending::Payload(_, _) => false,
+    }
+}
+
+// Plot mode holds only on a plot line, with no command begun but a lone ESC.
+fn plot_sound(head: Head, pending: Pending) -> bool
+    ensures { λ r. ⌜ r ≡ plot-sound head pending ⌝ }
+{
+    !head.plotting || (head.plotted && at_most_escape(pending))
+}
+
+// A state that bytes may be fed to.
+pub fn sound(p: Printer) -> bool
+    ensures { λ r. ⌜ r ≡ sound lp2 p ⌝ }
+{
+    let form = p.form;
+    let head = p.head;
+    let style = p.style;
+    let pitch = style.pitch;
+    let pending = p.pending;
+    if !form_sound(form) {
+        return false;
+    }
+    if !fits(form, head.row) {
+        return false;
+    }
+    if width(pitch) < head.column {
+        return false;
+    }
+    if !tabs_sound(p) {
+        return false;
+    }
+    if !load_sound(pending) {
+        return false;
+    }
+    if !place_sound(p.job, begun(pending)) {
+        return false;
+    }
+    if !fresh_sound(head) {
+        return false;
+    }
+    plot_sound(head, pending)
+}
+
+// What is said of a job that is closed in this state.
+pub fn closing(p: Printer) -> Closing
+    ensures { λ r. ⌜ r ≡ closing lp2 p ⌝ }
+{
+    if !sound(p) {
+        return Closing::Unsound;
+    }
+    let pending = p.pending;
+    match begun(pending) {
+        Begun::At(place) => Closing::Unfinished(place),
+        Begun::Nowhere => {
+            if p.head.fresh {
+                Closing::Clean
+            } else {
+                Closing::Unprinted
+            }
+        }
+    }
+}
