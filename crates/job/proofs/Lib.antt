@@ -3,5 +3,6 @@ pub mod Accepted
 pub mod Cutting
 pub mod FeedingDots
 pub mod Answering
+pub mod Taking
 pub mod Unique
 pub mod Table

@@ -42,3 +42,5 @@ pub struct Fed {
     pub answer: Answer,
     pub taken: usize,
 }
+
+pub mod calls;

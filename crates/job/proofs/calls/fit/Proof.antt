@@ -1,0 +1,35 @@
+use borrow.Author.Needs.{needs}
+use borrow.Author.Tests.{eq-eqb, ne-eqb}
+use lib.ListN.{length}
+use Rattle.sheet.specs.Edition.{lp2}
+use Rattle.sheet.specs.Form.{page-bytes}
+use Rattle.job.specs.Calls.{fit}
+use Rattle.job.proofs.calls.fit.Statement.{statement}
+use Rattle.job.proofs.calls.fit.Tie as tie
+
+returns : tie.Need-returns
+unfolding fit lp2
+returns c p = simp (ne-eqb (length (c .before .before .before .before .before .before .before .args .page .now)) (page-bytes lp2 (c .before .before .before .before .before .before .before .args .form)) (simp (c .before .page-bytes .ensures) at (c .if1 .taken)))
+
+returns-2 : tie.Need-returns-2
+unfolding fit lp2
+returns-2 c p = simp (eq-eqb (length (c .before .before .before .before .before .before .before .before .args .page .now)) (page-bytes lp2 (c .before .before .before .before .before .before .before .before .args .form)) (simp (c .before .before .page-bytes .ensures) at (c .before .if1 .left)), ne-eqb _ _ (c .if2 .taken))
+
+returns-3 : tie.Need-returns-3
+unfolding fit lp2
+returns-3 c p = simp (eq-eqb (length (c .before .before .before .before .before .before .before .before .before .args .page .now)) (page-bytes lp2 (c .before .before .before .before .before .before .before .before .before .args .form)) (simp (c .before .before .before .page-bytes .ensures) at (c .before .before .if1 .left)), eq-eqb _ _ (c .before .if2 .left), ne-eqb _ _ (c .if3 .taken))
+
+returns-4 : tie.Need-returns-4
+unfolding fit lp2
+returns-4 c p = simp (eq-eqb (length (c .before .before .before .before .before .before .before .before .before .before .args .page .now)) (page-bytes lp2 (c .before .before .before .before .before .before .before .before .before .before .args .form)) (simp (c .before .before .before .before .page-bytes .ensures) at (c .before .before .before .if1 .left)), eq-eqb _ _ (c .before .before .if2 .left), eq-eqb _ _ (c .before .if3 .left), ne-eqb _ _ (c .if4 .taken))
+
+returns-5 : tie.Need-returns-5
+unfolding fit lp2
+returns-5 c p = simp (eq-eqb (length (c .before .before .before .before .before .before .before .before .before .before .before .args .page .now)) (page-bytes lp2 (c .before .before .before .before .before .before .before .before .before .before .before .args .form)) (simp (c .before .before .before .before .before .page-bytes .ensures) at (c .before .before .before .before .if1 .left)), eq-eqb _ _ (c .before .before .before .if2 .left), eq-eqb _ _ (c .before .before .if3 .left), eq-eqb _ _ (c .before .if4 .left), ne-eqb _ _ (c .if5 .taken))
+
+returns-6 : tie.Need-returns-6
+unfolding fit lp2
+returns-6 c p = simp (eq-eqb (length (c .before .before .before .before .before .before .before .before .before .before .before .args .page .now)) (page-bytes lp2 (c .before .before .before .before .before .before .before .before .before .before .before .args .form)) (simp (c .before .before .before .before .before .page-bytes .ensures) at (c .before .before .before .before .if1 .left)), eq-eqb _ _ (c .before .before .before .if2 .left), eq-eqb _ _ (c .before .before .if3 .left), eq-eqb _ _ (c .before .if4 .left), eq-eqb _ _ (c .if5 .left))
+
+pub fit-spec : {M : Type 1} → statement M
+fit-spec = tie.close (tie.spec (λ c κs. search needs) returns returns-2 returns-3 returns-4 returns-5 returns-6)

@@ -1,0 +1,12 @@
+use borrow.Author.Needs.{needs}
+use Rattle.sheet.specs.Edition.{lp2}
+use Rattle.printer.specs.Machine.{no-tabs}
+use Rattle.job.proofs.calls.new_printer.Statement.{statement}
+use Rattle.job.proofs.calls.new_printer.Tie as tie
+
+returns : tie.Need-returns
+unfolding no-tabs lp2
+returns c = search needs
+
+pub new-printer-spec : {M : Type 1} → statement M
+new-printer-spec = tie.close (tie.spec returns)
