@@ -4,5 +4,6 @@ pub mod Cutting
 pub mod FeedingDots
 pub mod Answering
 pub mod Taking
+pub mod Offering
 pub mod Unique
 pub mod Table
