@@ -21,7 +21,7 @@ use Rattle.printer.proofs.Readings.{run-reading}
 use Rattle.printer.proofs.Ready.{Allowed, Ready}
 use Rattle.printer.proofs.StaysSound.{opened-ready, run-ready, step-fine, tell-ready}
 use Rattle.job.specs.declared.Answer.the-variants.{Done}
-use Rattle.job.specs.Calls.{Feeding, heard, limit, opening, take-bytes}
+use Rattle.job.specs.Calls.{Feeding, feeding, heard, limit, opening, take-bytes}
 use Rattle.job.specs.Protocol.{Delivery, answered, delivered, delivery, joined, offer}
 use Rattle.job.proofs.Accepted.{Accepted, feeding-takes, opening-accepted}
 
@@ -64,11 +64,11 @@ module _ (e : Edition) (font : List ℕ) where
         (call-run bs (s .machine) (room-step b bs m r) (λ rest x l w. k rest x (omega arith) w)))
 
   module _ (sized : length font ≡ 2048) where
-    offer-run : (calls : ℕ) (piece : List ℕ) (m : Machine) → length piece < calls → Room piece m → offer e font calls piece m ≡ delivered (run e font piece m)
+    offer-run : (calls : ℕ) (piece : List ℕ) (m : Machine) → length piece < calls → Room piece m → offer e (feeding e font) calls piece m ≡ delivered (run e font piece m)
     unfolding offer
     offer-run zero piece m l r = absurd (omega arith)
     offer-run (suc calls) piece m l r =
-        rw (feeding-takes (r .ready) font sized piece) (call-run (offer e font calls) piece m r (λ rest x k w. offer-run calls rest x (omega arith) w))
+        rw (feeding-takes (r .ready) font sized piece) (call-run (offer e (feeding e font) calls) piece m r (λ rest x k w. offer-run calls rest x (omega arith) w))
 
     room-front : (xs ys : List ℕ) (m : Machine) → Room (xs ++ ys) m → Room xs m
     room-front xs ys m r = record { ready = r .ready; fits = omega (arith, r .fits, length-append xs ys) }
@@ -77,7 +77,7 @@ module _ (e : Edition) (font : List ℕ) where
     room-back xs ys m r =
         record { ready = run-ready font xs (r .ready); fits = omega (arith, r .fits, length-append xs ys, run-counts e font xs m .1) }
 
-    delivery-run : (pieces : List (List ℕ)) (m : Machine) → Room (joined pieces) m → delivery e font pieces m ≡ delivered (run e font (joined pieces) m)
+    delivery-run : (pieces : List (List ℕ)) (m : Machine) → Room (joined pieces) m → delivery e (feeding e font) pieces m ≡ delivered (run e font (joined pieces) m)
     unfolding delivery joined run
     delivery-run [] m r = refl
     delivery-run (piece ∷ pieces) m r =
@@ -89,7 +89,7 @@ module _ (e : Edition) (font : List ℕ) where
 
 -- from any machine that is ready and has nothing pending, for bytes that fit the job
 pub any-cutting-from : {e : Edition} {m : Machine} → Ready e m → m .printer .pending ≡ Nothing → (font : List ℕ) → length font ≡ 2048 → (pieces : List (List ℕ))
-    → m .printer .job + length (joined pieces) ≤ limit → delivery e font pieces m ≡ delivered (reading e font (joined pieces) m)
+    → m .printer .job + length (joined pieces) ≤ limit → delivery e (feeding e font) pieces m ≡ delivered (reading e font (joined pieces) m)
 any-cutting-from {e} {m} h idle font sized pieces l =
     delivery-run e font sized pieces m (record { ready = h; fits = l }) ∙ ap delivered (run-reading e font (joined pieces) m idle)
 
@@ -97,7 +97,7 @@ any-cutting-from {e} {m} h idle font sized pieces l =
 -- job gives, the same forms and notes in the same order and the same machine, and the last answer is 0.
 pub any-cutting : (e : Edition) (font : List ℕ) (lines spacing : ℕ) (lent : Machine) (pieces : List (List ℕ))
     → opening e lines spacing font lent .answer ≡ Done → length (joined pieces) ≤ 4294967295
-    → delivery e font pieces (opening e lines spacing font lent .machine) ≡ delivered (reading e font (joined pieces) (opening e lines spacing font lent .machine))
+    → delivery e (feeding e font) pieces (opening e lines spacing font lent .machine) ≡ delivered (reading e font (joined pieces) (opening e lines spacing font lent .machine))
 any-cutting e font lines spacing lent pieces done l =
     let f : Form = record { lines = lines; spacing = spacing } in
     let a : Accepted e f font (opening e lines spacing font lent) = opening-accepted e lines spacing font lent done in

@@ -5,5 +5,6 @@ pub mod FeedingDots
 pub mod Answering
 pub mod Taking
 pub mod Offering
+pub mod CodeCutting
 pub mod Unique
 pub mod Table

@@ -19,6 +19,7 @@ use Rattle.printer.proofs.Soundness.{SoundHead}
 use Rattle.printer.proofs.StaysSound.{opened-ready}
 use Rattle.printer.proofs.Table.{cases}
 use Rattle.job.specs.declared.Answer.the-variants.{Done}
+use Rattle.job.specs.Calls.{feeding}
 use Rattle.job.specs.Protocol.{Delivery, delivered, delivery, joined, outcome}
 use Rattle.job.proofs.Cutting.{any-cutting-from}
 
@@ -52,7 +53,7 @@ table-fed = refl
 module _ (font : List ℕ) (sized : length font ≡ 2048) where
   -- a job fed in one piece
   abbrev pub whole : List ℕ → Machine → Delivery
-  whole job m = delivery lp2 font (job ∷ []) m
+  whole job m = delivery lp2 (feeding lp2 font) (job ∷ []) m
 
   one-piece : (c : Case) → fed c ≡ true
       → whole (c .job) (start (c .row) (c .plotted)) ≡ delivered (reading lp2 font (c .job) (start (c .row) (c .plotted)))

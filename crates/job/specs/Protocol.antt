@@ -10,7 +10,7 @@ use Rattle.printer.specs.Machine.{Machine, with-page}
 use Rattle.printer.specs.Steps.{Outcome, Told, form, note}
 use Rattle.job.specs.declared.Answer.{Answer}
 use Rattle.job.specs.declared.Answer.the-variants.{Done, Finished, Noted, JobFull, Unsound, Misfit, Guarded, WrongLines, WrongSpacing}
-use Rattle.job.specs.Calls.{Feeding, feeding}
+use Rattle.job.specs.Calls.{Feeding}
 
 -- what a caller has in the end: the forms and notes in order, the answer that ended it, and the machine left
 pub record Delivery : Type 0 where
@@ -36,12 +36,12 @@ answered e Guarded m go = ends Guarded m
 answered e WrongLines m go = ends WrongLines m
 answered e WrongSpacing m go = ends WrongSpacing m
 
--- a piece offered until an answer ends it, in at most so many calls
-unfoldable pub offer : Edition → List ℕ → ℕ → List ℕ → Machine → Delivery
-offer e font zero piece m = ends Done m
-offer e font (suc calls) piece m =
-    let f : Feeding = feeding e font piece m in
-    answered e (f .answer) (f .machine) (offer e font calls (drop (f .taken) piece))
+-- a piece offered to a way of feeding until an answer ends it, in at most so many calls
+unfoldable pub offer : Edition → (List ℕ → Machine → Feeding) → ℕ → List ℕ → Machine → Delivery
+offer e feed zero piece m = ends Done m
+offer e feed (suc calls) piece m =
+    let f : Feeding = feed piece m in
+    answered e (f .answer) (f .machine) (offer e feed calls (drop (f .taken) piece))
 
 -- the piece before is used up
 abbrev pub used-up : Answer → Bool
@@ -56,11 +56,11 @@ used-up WrongLines = false
 used-up WrongSpacing = false
 
 -- the pieces in turn; a call that moves takes a byte, so a piece needs no more calls than it has bytes, and one
-unfoldable pub delivery : Edition → List ℕ → List (List ℕ) → Machine → Delivery
-delivery e font [] m = ends Done m
-delivery e font (piece ∷ pieces) m =
-    let d : Delivery = offer e font (suc (length piece)) piece m in
-    cond (used-up (d .answer)) (after (d .told) (delivery e font pieces (d .machine))) d
+unfoldable pub delivery : Edition → (List ℕ → Machine → Feeding) → List (List ℕ) → Machine → Delivery
+delivery e feed [] m = ends Done m
+delivery e feed (piece ∷ pieces) m =
+    let d : Delivery = offer e feed (suc (length piece)) piece m in
+    cond (used-up (d .answer)) (after (d .told) (delivery e feed pieces (d .machine))) d
 
 -- the job that was cut into pieces
 unfoldable pub joined : List (List ℕ) → List ℕ

@@ -161,7 +161,17 @@ fn is_quiet(event: Event) -> bool
     }
 }
 
-// The answer of a call that has taken n bytes before the one that came to an event.
+fn given(printer: Printer, answer: Answer, taken: usize) -> Fed
+    ensures { λ r. ⌜ r ≡ fed printer answer taken ⌝ }
+{
+    Fed {
+        printer,
+        answer,
+        taken,
+    }
+}
+
+// The answer of a call that has taken n bytes before the one that came to an event. A guard's byte is not taken, and the state is the one before it.
 fn answer_to(p: Printer, s: Stepped, n: usize) -> Fed
     requires { ⌜ n + 1 ≤ 18446744073709551615 ⌝ }
     ensures { λ r. ⌜ r ≡ answer-to (s .event) p (s .printer) n ⌝ }
@@ -169,26 +179,10 @@ fn answer_to(p: Printer, s: Stepped, n: usize) -> Fed
     let after = s.printer;
     let event = s.event;
     match event {
-        Event::Quiet => Fed {
-            printer: after,
-            answer: Answer::Done,
-            taken: n + 1,
-        },
-        Event::Finished => Fed {
-            printer: after,
-            answer: Answer::Finished,
-            taken: n + 1,
-        },
-        Event::Noted(fault, place) => Fed {
-            printer: after,
-            answer: Answer::Noted(fault, place),
-            taken: n + 1,
-        },
-        Event::Guard => Fed {
-            printer: p,
-            answer: Answer::Guarded,
-            taken: n,
-        },
+        Event::Quiet => given(after, Answer::Done, n + 1),
+        Event::Finished => given(after, Answer::Finished, n + 1),
+        Event::Noted(fault, place) => given(after, Answer::Noted(fault, place), n + 1),
+        Event::Guard => given(p, Answer::Guarded, n),
     }
 }
 

@@ -5,6 +5,7 @@ use mathlib.Core.List.{List, [], _∷_, _++_, map}
 use mathlib.Core.Path.{_≡_}
 use lib.ListN.{drop, getD, replicate, take}
 use Rattle.sheet.specs.Edition.{lp2}
+use Rattle.glyph.specs.CapitalB.{capital-b}
 use Rattle.printer.specs.declared.Closing.{Closing}
 use Rattle.printer.specs.declared.Closing.the-variants.{Clean}
 use Rattle.printer.specs.Bytes.{run}
@@ -69,12 +70,9 @@ note-at n place = record { number = 2; values = n ∷ place ∷ [] }
 abbrev pub form-finished : Report
 form-finished = record { number = 1; values = [] }
 
--- LP2's "B": the sixteen bytes of its glyph, and its download with some checksum
-abbrev pub glyph-b : List ℕ
-glyph-b = 0o000 ∷ 0o000 ∷ 0o001 ∷ 0o004 ∷ 0o000 ∷ 0o370 ∷ 0o001 ∷ 0o004 ∷ 0o000 ∷ 0o040 ∷ 0o001 ∷ 0o004 ∷ 0o000 ∷ 0o040 ∷ 0o000 ∷ 0o330 ∷ []
-
+-- the download of LP2's "B", with some checksum
 abbrev pub download-b : ℕ → List ℕ
-download-b checksum = 0o033 ∷ 0o131 ∷ 0o000 ∷ 0o020 ∷ 0o014 ∷ 0o040 ∷ (glyph-b ++ (checksum ∷ []))
+download-b checksum = 0o033 ∷ 0o131 ∷ 0o000 ∷ 0o020 ∷ 0o014 ∷ 0o040 ∷ (capital-b ++ (checksum ∷ []))
 
 -- the cases, each behind its letter
 unfoldable pub table : List Case
@@ -94,7 +92,7 @@ table =
     -- G
     ∷ from-top (0x0b ∷ []) [] (sees row (number 0) ∷ [])
     -- H
-    ∷ from-top (download-b 0o341) [] (sees (stored 1056 16) (bytes glyph-b) ∷ [])
+    ∷ from-top (download-b 0o341) [] (sees (stored 1056 16) (bytes capital-b) ∷ [])
     ∷ from-top (download-b 0o340) (note-at 45 0 ∷ []) []
     -- I
     ∷ from-row 780 false (0x0a ∷ []) (form-finished ∷ []) (sees row (number 0) ∷ [])
