@@ -1,0 +1,257 @@
+// Replaying a script: its job is opened, its pieces are fed, and what is left is told.
+ghost use Prim.Native.Nat.{_+_, _*_, _≤_, min};
+ghost use mathlib.Core.Path.{_≡_};
+ghost use lib.ListN.{getD, length};
+ghost use Rattle.replay.specs.Script.{page-size};
+use crate::lines::say_feeding;
+use crate::lines::say_left;
+use crate::lines::say_line;
+use crate::lines::say_sum;
+use crate::sums::adler;
+use crate::wide;
+use job::Answer;
+use job::Fed;
+use job::calls::offer;
+use job::calls::open;
+use printer::Printer;
+use report::answer_number;
+use report::say_number;
+use sheet::Form;
+use sheet::sizes::form_rows;
+use sheet::sizes::spacing_allowed;
+use sheet::strike::blank;
+
+// A replay so far: the printer, how many forms are finished, how many bytes of the present piece are taken, whether the job goes on, and whether
+// standard output took every line.
+struct Replay {
+    printer: Printer,
+    forms: u64,
+    taken: usize,
+    open: bool,
+    written: bool,
+}
+
+// Whether a replay goes on to the next byte.
+fn goes_on(r: Replay) -> bool {
+    r.open && r.written
+}
+
+// The replay before a new piece.
+fn with_new_piece(r: Replay) -> Replay {
+    let printer = r.printer;
+    Replay {
+        printer,
+        forms: r.forms,
+        taken: 0,
+        open: r.open,
+        written: r.written,
+    }
+}
+
+// Writes a finished form's number and sum, and lends a blank page.
+fn tell_form(number: u64, page: &mut [u8]) -> bool {
+    let sum = adler(page);
+    blank(page);
+    say_number(b"FORM ", number) && say_sum(b" ", sum)
+}
+
+// Writes what came of a feeding that took so many bytes. Any answer but a piece used up, a finished form or a note ends the job.
+fn tell_feeding(f: Fed, took: usize, forms: u64, page: &mut [u8]) -> Replay {
+    let printer = f.printer;
+    let taken = f.taken;
+    let answer = f.answer;
+    let written = say_feeding(answer, took);
+    match answer {
+        Answer::Finished => {
+            let number = std::num::wrapping_add_u64(forms, 1);
+            Replay {
+                printer,
+                forms: number,
+                taken,
+                open: true,
+                written: written && tell_form(number, page),
+            }
+        }
+        Answer::Done | Answer::Noted(_, _) => Replay {
+            printer,
+            forms,
+            taken,
+            open: true,
+            written,
+        },
+        _ => Replay {
+            printer,
+            forms,
+            taken,
+            open: false,
+            written,
+        },
+    }
+}
+
+// Feeds the rest of a piece.
+fn feed_rest(
+    r: Replay,
+    piece: &[u8],
+    page: &mut [u8],
+    line: &mut [u16],
+    staging: &mut [u8],
+    store: &mut [u8],
+    font: &[u8],
+) -> Replay {
+    let p = r.printer;
+    let f = offer(p, piece, r.taken, page, line, staging, store, font);
+    tell_feeding(f, f.taken - r.taken, r.forms, page)
+}
+
+// Feeds a piece: once, and then its rest until that is used up, or no byte of it is taken.
+fn feed_piece(
+    before: Replay,
+    piece: &[u8],
+    page: &mut [u8],
+    line: &mut [u16],
+    staging: &mut [u8],
+    store: &mut [u8],
+    font: &[u8],
+) -> Replay {
+    let start = with_new_piece(before);
+    let mut r = feed_rest(start, piece, page, line, staging, store, font);
+    while r.taken < piece.len() && goes_on(r) {
+        let taken = r.taken;
+        r = feed_rest(r, piece, page, line, staging, store, font);
+        if r.taken <= taken {
+            return r;
+        }
+    }
+    r
+}
+
+// Where a piece ends whose length stands at a place: that many bytes after the length's two, or with the script.
+fn piece_end(pieces: &[u8], at: usize) -> usize
+    requires { ⌜ at + 2 ≤ length (now pieces) ⌝ }
+    ensures { λ r. ⌜ r ≡ min (at + 2 + (getD (now (pieces .entry)) at 0 * 256 + getD (now (pieces .entry)) (at + 1) 0)) (length (now (pieces .entry))) ⌝ }
+{
+    let bytes = wide(pieces[at]) * 256 + wide(pieces[at + 1]);
+    let end = at + 2 + bytes;
+    if end < pieces.len() {
+        end
+    } else {
+        pieces.len()
+    }
+}
+
+// Feeds the pieces of a script, up to its end or the job's.
+fn feed_pieces(
+    start: Replay,
+    pieces: &[u8],
+    page: &mut [u8],
+    line: &mut [u16],
+    staging: &mut [u8],
+    store: &mut [u8],
+    font: &[u8],
+) -> Replay {
+    let mut r = start;
+    let mut at = 0;
+    while pieces.len() - at >= 2 && goes_on(r) {
+        let first = at + 2;
+        let end = piece_end(pieces, at);
+        r = feed_piece(r, &pieces[first..end], page, line, staging, store, font);
+        at = end;
+    }
+    r
+}
+
+// Tells what is left, if standard output took every line so far.
+fn tell_left(r: Replay, page: &[u8], line: &[u16], staging: &[u8], store: &[u8]) -> bool {
+    if !r.written {
+        return false;
+    }
+    let printer = r.printer;
+    say_left(printer, page, line, staging, store)
+}
+
+// Feeds the pieces of a script to a job just opened, and tells what is left.
+fn feed_job(
+    printer: Printer,
+    pieces: &[u8],
+    page: &mut [u8],
+    line: &mut [u16],
+    staging: &mut [u8],
+    store: &mut [u8],
+    font: &[u8],
+) -> bool {
+    let start = Replay {
+        printer,
+        forms: 0,
+        taken: 0,
+        open: true,
+        written: true,
+    };
+    let r = feed_pieces(start, pieces, page, line, staging, store, font);
+    tell_left(r, page, line, staging, store)
+}
+
+// Opens the job of a script, and feeds it unless the opening is refused. Answers whether standard output took every line.
+fn open_job(
+    lines: usize,
+    spacing: usize,
+    pieces: &[u8],
+    page: &mut [u8],
+    line: &mut [u16],
+    staging: &mut [u8],
+    store: &mut [u8],
+    font: &[u8],
+) -> bool {
+    let opened = open(lines, spacing, page, line, staging, store, font);
+    let answer = opened.answer;
+    let number = answer_number(answer);
+    if !say_line(b"OPEN ", number) {
+        return false;
+    }
+    if number != 0 {
+        return true;
+    }
+    let printer = opened.printer;
+    feed_job(printer, pieces, page, line, staging, store, font)
+}
+
+// The bytes of a script's page, none where its job is not opened.
+fn page_size(lines: usize, spacing: usize) -> usize
+    ensures { λ r. ⌜ r ≡ page-size lines spacing ⌝ }
+    ensures { λ r. ⌜ r ≤ 980100 ⌝ }
+{
+    if lines > 99 {
+        return 0;
+    }
+    if !spacing_allowed(spacing) {
+        return 0;
+    }
+    let form = Form { lines, spacing };
+    form_rows(form) * 825
+}
+
+// Replays a script, and answers whether standard output took every line.
+pub fn perform(
+    script: &[u8],
+    page: &mut [u8],
+    line: &mut [u16],
+    staging: &mut [u8],
+    store: &mut [u8],
+) -> bool
+    requires { ⌜ 2050 ≤ length (now script) ⌝ }
+    requires { ⌜ length (now page) ≡ 980100 ⌝ }
+{
+    let lines = wide(script[0]);
+    let spacing = wide(script[1]);
+    let size = page_size(lines, spacing);
+    open_job(
+        lines,
+        spacing,
+        &script[2050..],
+        &mut page[..size],
+        line,
+        staging,
+        store,
+        &script[2..2050],
+    )
+}

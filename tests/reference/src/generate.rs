@@ -1,0 +1,101 @@
+//! Scripts: a form, a font, and a job cut into pieces.
+
+use crate::glyph_maker;
+use crate::job_maker::job;
+use crate::lent::FONT;
+use crate::random::Random;
+use std::io::{self, Write};
+
+/// Writes N scripts, each preceded by its length in four bytes, high first.
+pub fn generate(seed: u64, count: u64, output: &mut impl Write) -> io::Result<()> {
+    let mut random = Random::new(seed);
+    for _ in 0..count {
+        let script = script(&mut random);
+        output.write_all(&(script.len() as u32).to_be_bytes())?;
+        output.write_all(&script)?;
+    }
+    Ok(())
+}
+
+fn script(random: &mut Random) -> Vec<u8> {
+    let mut lines = lines(random);
+    let mut spacing = random.pick(&[6, 8]);
+    let mut job = job(random, lines);
+    // Now and then what an opening refuses, or no script at all.
+    match random.weighted(&[970, 10, 10, 5, 5]) {
+        0 => {}
+        1 => lines = random.pick(&[0, 100, 255]),
+        2 => spacing = random.pick(&[0, 5, 7, 9, 12]),
+        3 => (lines, spacing) = (random.pick(&[0, 100]), 7),
+        _ => return vec![6; random.pick(&[0, 1, 2, 300, 1 + FONT])],
+    }
+    if !(1..=99).contains(&lines) || ![6, 8].contains(&spacing) {
+        job.truncate(40);
+    }
+    let mut script = vec![lines, spacing];
+    script.extend(glyph_maker::font(random));
+    put_pieces(random, &job, &mut script);
+    script
+}
+
+/// Small forms more often than large ones.
+fn lines(random: &mut Random) -> u8 {
+    match random.weighted(&[60, 20, 12, 6, 2]) {
+        0 => random.byte(1..=5),
+        1 => random.byte(6..=12),
+        2 => random.byte(13..=40),
+        3 => random.byte(41..=66),
+        _ => random.byte(67..=99),
+    }
+}
+
+/// How a job is cut.
+enum Cut {
+    Whole,
+    Bytes,
+    UpTo(usize),
+}
+
+fn put_pieces(random: &mut Random, job: &[u8], script: &mut Vec<u8>) {
+    let cut = match random.weighted(&[30, 10, 25, 20, 15]) {
+        0 => Cut::Whole,
+        1 if job.len() <= 400 => Cut::Bytes,
+        2 => Cut::UpTo(1 + job.len() / 2),
+        3 => Cut::UpTo(400),
+        _ => Cut::UpTo(40),
+    };
+    let mut rest = job;
+    while !rest.is_empty() {
+        if random.chance(6) {
+            put_piece(&[], script);
+        }
+        let length = match cut {
+            Cut::Whole => rest.len(),
+            Cut::Bytes => 1,
+            Cut::UpTo(most) => random.number(1..=most),
+        };
+        let (piece, after) = rest.split_at(length.min(rest.len()).min(65_535));
+        if after.is_empty() && random.chance(6) {
+            // The last length reaches past the script's end.
+            let more = random.number(1..=500).min(65_535 - piece.len());
+            script.extend(((piece.len() + more) as u16).to_be_bytes());
+            script.extend(piece);
+            return;
+        }
+        put_piece(piece, script);
+        rest = after;
+    }
+    match random.below(20) {
+        0 => put_piece(&[], script),
+        // A length with nothing behind it.
+        1 => script.extend([0x00, 0x05]),
+        // A byte where a length is due.
+        2 => script.push(0x00),
+        _ => {}
+    }
+}
+
+fn put_piece(piece: &[u8], script: &mut Vec<u8>) {
+    script.extend((piece.len() as u16).to_be_bytes());
+    script.extend(piece);
+}

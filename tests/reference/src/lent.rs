@@ -1,0 +1,54 @@
+//! Document 01, "Memory lent": five stores and their exact lengths.
+
+use crate::sheet::{Form, LINE_STORE};
+
+pub const STAGING: usize = 2_048;
+pub const STORE: usize = 2_048;
+pub const FONT: usize = 2_048;
+
+#[derive(Clone, PartialEq, Eq)]
+pub struct Lent {
+    pub page: Vec<u8>,
+    pub line: Vec<u16>,
+    pub staging: Vec<u8>,
+    pub store: Vec<u8>,
+    pub font: Vec<u8>,
+}
+
+impl Lent {
+    /// Stores of the right lengths, with a page of so many bytes.
+    pub fn new(page_bytes: usize, font: Vec<u8>) -> Lent {
+        Lent {
+            page: vec![0; page_bytes],
+            line: vec![0; LINE_STORE],
+            staging: vec![0; STAGING],
+            store: vec![0; STORE],
+            font,
+        }
+    }
+
+    /// 11 to 15, in order: the first store of a wrong length.
+    pub fn refusal(&self, form: Form) -> Option<u8> {
+        if self.page.len() != form.page_bytes() {
+            Some(11)
+        } else if self.line.len() != LINE_STORE {
+            Some(12)
+        } else if self.staging.len() != STAGING {
+            Some(13)
+        } else if self.store.len() != STORE {
+            Some(14)
+        } else if self.font.len() != FONT {
+            Some(15)
+        } else {
+            None
+        }
+    }
+
+    /// Opening a job zeroes all but the font.
+    pub fn zero(&mut self) {
+        self.page.fill(0);
+        self.line.fill(0);
+        self.staging.fill(0);
+        self.store.fill(0);
+    }
+}

@@ -1,0 +1,54 @@
+//! What taking one byte came to, and the notes with their numbers.
+
+/// What a note is about, named for its cause.
+#[derive(Clone, Copy, PartialEq, Eq, PartialOrd, Ord, Debug)]
+pub enum Fault {
+    UnknownCommand,
+    PastLine,
+    PlotPastLine,
+    Checksum,
+    StrayByte,
+    PitchInLine,
+    PlotInLine,
+    ResetByte,
+    SelectPair,
+    PrintOnPlotLine,
+    PlotEscape,
+    PlotHighByte,
+    DownloadRange,
+    TabItem,
+    IllFormedGlyph,
+}
+
+impl Fault {
+    pub fn number(self) -> u8 {
+        match self {
+            Fault::UnknownCommand => 42,
+            Fault::PastLine | Fault::PlotPastLine => 44,
+            Fault::Checksum => 45,
+            Fault::StrayByte
+            | Fault::PitchInLine
+            | Fault::PlotInLine
+            | Fault::ResetByte
+            | Fault::SelectPair
+            | Fault::PrintOnPlotLine
+            | Fault::PlotEscape
+            | Fault::PlotHighByte
+            | Fault::DownloadRange => 46,
+            Fault::TabItem => 48,
+            Fault::IllFormedGlyph => 80,
+        }
+    }
+}
+
+#[derive(Clone, Copy, PartialEq, Eq, Debug)]
+pub enum Outcome {
+    /// The byte is taken, and the call goes on.
+    Quiet,
+    /// The byte finished a form.
+    Finished,
+    /// The byte ended a faulty command or list item.
+    Note(Fault, u32),
+    /// 17: a terminator past the form's end; the byte is not taken.
+    Guard,
+}

@@ -1,0 +1,67 @@
+//! Document 01, "Bytes outside plot mode": the four line terminators.
+
+use crate::lent::Lent;
+use crate::outcome::Outcome;
+use crate::sheet::{strike, Line, Row};
+use crate::state::State;
+
+#[derive(Clone, Copy, PartialEq, Eq, Debug)]
+pub enum Terminator {
+    Newline,
+    VerticalTab,
+    FormFeed,
+    CarriageReturn,
+}
+
+/// Rows that 0A moves on a plot line, at either spacing.
+const PLOT_ROWS: u32 = 7;
+
+/// Each terminator strikes the line, then moves.
+pub fn take(state: &mut State, lent: &mut Lent, terminator: Terminator) -> Outcome {
+    if !state.form.fits(state.row) {
+        return Outcome::Guard;
+    }
+    let step = if state.plot_line {
+        PLOT_ROWS
+    } else {
+        state.form.rows_per_line()
+    };
+    strike(&mut lent.page, &mut lent.line, state.row, state.pitch);
+    state.begin_line();
+    match terminator {
+        Terminator::CarriageReturn => Outcome::Quiet,
+        Terminator::FormFeed => finish(state, Row(0)),
+        Terminator::Newline => newline(state, step),
+        Terminator::VerticalTab => vertical_tab(state),
+    }
+}
+
+fn finish(state: &mut State, row: Row) -> Outcome {
+    state.row = row;
+    Outcome::Finished
+}
+
+fn newline(state: &mut State, step: u32) -> Outcome {
+    let row = Row(state.row.0 + step);
+    if !state.form.fits(row) {
+        return finish(state, Row(0));
+    }
+    state.row = row;
+    Outcome::Quiet
+}
+
+/// To the next tabbed line below; with none below, to the lowest-numbered one
+/// on the next form; with no tab at all, no move.
+fn vertical_tab(state: &mut State) -> Outcome {
+    let current = state.line();
+    let below: Option<Line> = state.tabs.iter().copied().find(|&line| line > current);
+    let lowest: Option<Line> = state.tabs.first().copied();
+    match (below, lowest) {
+        (Some(line), _) => {
+            state.row = state.form.first_row(line);
+            Outcome::Quiet
+        }
+        (None, Some(line)) => finish(state, state.form.first_row(line)),
+        (None, None) => Outcome::Quiet,
+    }
+}
