@@ -17,7 +17,7 @@ use state::parts::quiet;
 use state::parts::with_pending;
 
 // Stages payload byte k, where the staging store has room for it.
-fn stage(staging: &mut [u8], k: u16, b: u8)
+pub fn stage(staging: &mut [u8], k: u16, b: u8)
     ensures { λ _. ⌜ now (staging .exit) ≡ set (now (staging .entry)) k b ⌝ }
 {
     let i = k as usize;
@@ -27,7 +27,7 @@ fn stage(staging: &mut [u8], k: u16, b: u8)
 }
 
 // The download with one payload byte more. Its sum wraps, as the rule's does modulo 256.
-fn loaded(l: Load, b: u8) -> Load
+pub fn loaded(l: Load, b: u8) -> Load
     requires { ⌜ l .taken < l .count ⌝ }
     ensures { λ r. ⌜ r ≡ loaded l b ⌝ }
 {

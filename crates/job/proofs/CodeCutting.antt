@@ -6,10 +6,10 @@ use lib.ListN.{length}
 use Rattle.sheet.specs.Edition.{lp2}
 use Rattle.printer.specs.Commands.{reading}
 use Rattle.printer.specs.Machine.{Machine}
-use Rattle.job.specs.declared.Answer.the-variants.{Done}
-use Rattle.job.specs.Calls.{Feeding, Opening, feeding, opening}
-use Rattle.job.specs.Protocol.{delivered, delivery, joined}
-use Rattle.job.proofs.Cutting.{any-cutting}
+use Rattle.protocol.specs.declared.Answer.the-variants.{Done}
+use Rattle.protocol.specs.Calls.{Feeding, Opening, feeding, opening}
+use Rattle.protocol.specs.Protocol.{delivered, delivery, joined}
+use Rattle.protocol.proofs.Cutting.{any-cutting}
 
 -- a way of opening and of feeding, as functions of the state and all that is lent, that meets the contracts
 pub record Meets : Type 0 where

@@ -1,10 +1,4 @@
--- What is true of a job.
-pub mod Accepted
-pub mod Cutting
-pub mod FeedingDots
-pub mod Answering
-pub mod Taking
+-- What is true of the calls' code.
+pub mod Underway
 pub mod Offering
 pub mod CodeCutting
-pub mod Unique
-pub mod Table

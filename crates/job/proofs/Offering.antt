@@ -7,9 +7,9 @@ use lib.ListN.{drop, drop-of-length-le, length, length-drop, take}
 use lib.Seq.{take-all}
 use Rattle.sheet.specs.Edition.{lp2}
 use Rattle.printer.specs.Machine.{Machine}
-use Rattle.job.specs.Calls.{Feeding, feeding}
-use Rattle.job.specs.Given.{more}
-use Rattle.job.proofs.Answering.{feeding-counts}
+use Rattle.protocol.specs.Calls.{Feeding, feeding}
+use Rattle.protocol.specs.Given.{more}
+use Rattle.protocol.proofs.Answering.{feeding-counts}
 
 module _ (font piece : List ℕ) (taken : ℕ) (m : Machine) (f : Feeding) where
   -- all that is left from a count on

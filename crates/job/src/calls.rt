@@ -11,13 +11,8 @@ ghost use Rattle.printer.specs.Closing.{closing};
 ghost use Rattle.printer.specs.Given.{machine};
 ghost use Rattle.printer.specs.Machine.{empty-store, new-printer, shut};
 ghost use Rattle.printer.proofs.Ready.{Ready, Sized};
-ghost use Rattle.job.specs.Calls.{feeding, fit, opening, take-bytes};
-ghost use Rattle.job.specs.Given.{answer-to, is-quiet, fed, given-feeding, given-opening, more};
-use crate::Answer;
-use crate::Fed;
-use crate::Fit;
-use crate::Lent;
-use crate::Opened;
+ghost use Rattle.protocol.specs.Calls.{feeding, fit, opening, take-bytes};
+ghost use Rattle.protocol.specs.Given.{answer-to, is-quiet, fed, given-feeding, given-opening, more};
 use printer::Closing;
 use printer::Event;
 use printer::Head;
@@ -25,7 +20,13 @@ use printer::Pending;
 use printer::Printer;
 use printer::Stepped;
 use printer::Style;
+use protocol::Answer;
+use protocol::Fed;
+use protocol::Fit;
+use protocol::Lent;
+use protocol::Opened;
 use reader::bytes::step;
+use runs::runs::run;
 use sheet::Form;
 use sheet::Pitch;
 use sheet::Row;
@@ -186,7 +187,7 @@ fn answer_to(p: Printer, s: Stepped, n: usize) -> Fed
     }
 }
 
-// Takes the bytes of a piece, one after the other, up to one that has something to tell, or to the job's limit.
+// Takes the bytes of a piece, up to one that has something to tell, or to the job's limit: runs of like bytes at one go, every other byte by a step.
 fn take_bytes(
     p: Printer,
     piece: &[u8],
@@ -202,26 +203,24 @@ fn take_bytes(
     let mut q = p;
     let mut i = 0;
     while i < piece.len() {
-        if q.job == 4294967295 {
-            return Fed {
-                printer: q,
-                answer: Answer::JobFull,
-                taken: i,
-            };
+        let ran = run(q, &piece[i..], line, staging, store, font);
+        let after = ran.printer;
+        let at = i + ran.taken;
+        if at == piece.len() {
+            return given(after, Answer::Done, at);
         }
-        let s = step(q, piece[i], page, line, staging, store, font);
+        if after.job == 4294967295 {
+            return given(after, Answer::JobFull, at);
+        }
+        let s = step(after, piece[at], page, line, staging, store, font);
         let event = s.event;
         if !is_quiet(event) {
-            return answer_to(q, s, i);
+            return answer_to(after, s, at);
         }
         q = s.printer;
-        i += 1;
+        i = at + 1;
     }
-    Fed {
-        printer: q,
-        answer: Answer::Done,
-        taken: i,
-    }
+    given(q, Answer::Done, i)
 }
 
 // Feeds a piece of the job.

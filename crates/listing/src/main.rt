@@ -1,12 +1,12 @@
 // Lists a job: the notes and the finished forms of the bytes that come on standard input. Document 01, "The listing program".
-use job::Answer;
-use job::Fed;
 use job::calls::close;
 use job::calls::offer;
 use job::calls::open;
 use libc::STDIN_FILENO;
 use printer::Closing;
 use printer::Printer;
+use protocol::Answer;
+use protocol::Fed;
 use report::say;
 use report::say_note;
 use report::say_number;

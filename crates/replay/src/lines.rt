@@ -1,13 +1,13 @@
 // The lines that a replay writes. Each function answers whether standard output took its line.
 use crate::sums::adler;
 use crate::sums::adler_numbers;
-use job::Answer;
 use job::calls::close;
 use libc::STDOUT_FILENO;
 use printer::Closing;
 use printer::Head;
 use printer::Printer;
 use printer::Style;
+use protocol::Answer;
 use report::answer_number;
 use report::say;
 use report::say_note;

@@ -1,12 +1,12 @@
 // What a program tells of a job: document 01's numbers, and the lines that they are written in.
 ghost use mathlib.Core.Path.{_≡_};
 ghost use Rattle.printer.specs.Numbers.{note-number};
-ghost use Rattle.job.specs.Answers.{lent-number, report};
-use job::Answer;
-use job::Lent;
+ghost use Rattle.protocol.specs.Answers.{lent-number, report};
 use libc::STDERR_FILENO;
 use libc::STDOUT_FILENO;
 use printer::Fault;
+use protocol::Answer;
+use protocol::Lent;
 
 // The number of a note.
 pub fn note_number(fault: Fault) -> u64

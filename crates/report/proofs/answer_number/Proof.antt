@@ -1,8 +1,8 @@
 -- `answer_number` meets its contract: each arm has the number of its answer.
 use mathlib.Core.Path.{sym, ap, _∙_}
 use borrow.Author.Needs.{needs}
-use Rattle.job.specs.declared.Answer.{Answer}
-use Rattle.job.specs.Answers.{report}
+use Rattle.protocol.specs.declared.Answer.{Answer}
+use Rattle.protocol.specs.Answers.{report}
 use Rattle.report.proofs.answer_number.Statement.{statement}
 use Rattle.report.proofs.answer_number.Tie as tie
 

@@ -1,7 +1,7 @@
 -- `lent_number` meets its contract: each arm has the number of what is lent.
 use mathlib.Core.Path.{sym, ap}
 use borrow.Author.Needs.{needs}
-use Rattle.job.specs.Answers.{lent-number}
+use Rattle.protocol.specs.Answers.{lent-number}
 use Rattle.report.proofs.lent_number.Statement.{statement}
 use Rattle.report.proofs.lent_number.Tie as tie
 

@@ -4,8 +4,8 @@ use borrow.Author.Tests.{not-false, not-true}
 use Rattle.sheet.specs.Edition.{lp2}
 use Rattle.printer.proofs.Soundness.{sound-facts}
 use Rattle.printer.specs.Given.{machine}
-use Rattle.job.specs.Calls.{feed-fitted, feeding}
-use Rattle.job.proofs.Accepted.{right-fitting}
+use Rattle.protocol.specs.Calls.{feed-fitted, feeding}
+use Rattle.protocol.proofs.Accepted.{right-fitting}
 use Rattle.job.proofs.calls.feed.Statement.{statement}
 use Rattle.job.proofs.calls.feed.Tie as tie
 

@@ -3,7 +3,7 @@ use borrow.Author.Tests.{eq-eqb, ne-eqb}
 use lib.ListN.{length}
 use Rattle.sheet.specs.Edition.{lp2}
 use Rattle.sheet.specs.Form.{page-bytes}
-use Rattle.job.specs.Calls.{fit}
+use Rattle.protocol.specs.Calls.{fit}
 use Rattle.job.proofs.calls.fit.Statement.{statement}
 use Rattle.job.proofs.calls.fit.Tie as tie
 

@@ -7,8 +7,8 @@ use Rattle.sheet.specs.Edition.{lp2}
 use Rattle.sheet.specs.Form.{lines-allowed}
 use Rattle.printer.specs.Machine.{shut}
 use Rattle.printer.specs.Given.{machine}
-use Rattle.job.specs.Calls.{open-fitted, opening}
-use Rattle.job.proofs.Accepted.{right-fitting}
+use Rattle.protocol.specs.Calls.{open-fitted, opening}
+use Rattle.protocol.proofs.Accepted.{right-fitting}
 use Rattle.job.proofs.calls.open.Statement.{statement}
 use Rattle.job.proofs.calls.open.Tie as tie
 

@@ -2,7 +2,7 @@ use borrow.Author.Needs.{needs}
 use mathlib.Core.Path.{_∙_}
 use Rattle.sheet.specs.Edition.{lp2}
 use Rattle.carriage.proofs.Rooms.{blanked, emptied}
-use Rattle.job.proofs.Taking.{unmarked}
+use Rattle.protocol.proofs.Taking.{unmarked}
 use Rattle.job.proofs.calls.start.Statement.{statement}
 use Rattle.job.proofs.calls.start.Tie as tie
 

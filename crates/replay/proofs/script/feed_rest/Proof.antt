@@ -2,7 +2,7 @@
 use mathlib.Core.Path.{ap, _∙_}
 use native.Mathlib.Omega.{arith}
 use borrow.Author.Needs.{needs}
-use Rattle.job.specs.Calls.{Feeding}
+use Rattle.protocol.specs.Calls.{Feeding}
 use Rattle.replay.proofs.script.feed_rest.Statement.{statement}
 use Rattle.replay.proofs.script.feed_rest.Tie as tie
 

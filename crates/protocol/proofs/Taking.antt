@@ -21,9 +21,9 @@ use Rattle.printer.specs.Machine.{Machine}
 use Rattle.printer.specs.Room.{Room}
 use Rattle.printer.specs.Steps.{Step}
 use Rattle.printer.proofs.Ready.{Allowed, Ready}
-use Rattle.job.specs.declared.Answer.the-variants.{Done, JobFull}
-use Rattle.job.specs.Calls.{Feeding, heard, limit, one-more, stopped, take-bytes}
-use Rattle.job.specs.Given.{answer-to, given-feeding, is-quiet, more}
+use Rattle.protocol.specs.declared.Answer.the-variants.{Done, JobFull}
+use Rattle.protocol.specs.Calls.{Feeding, heard, limit, one-more, stopped, take-bytes}
+use Rattle.protocol.specs.Given.{answer-to, given-feeding, is-quiet, more}
 
 -- a machine that is ready has all that a byte asks for
 pub ready-room : {p : Printer} {page line staging store font : List ℕ} → Ready lp2 (machine p page line staging store) → length font ≡ 2048

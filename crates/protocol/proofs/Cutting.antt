@@ -20,10 +20,10 @@ use Rattle.printer.proofs.Keeping.{run-counts, step-counts, tell-printer}
 use Rattle.printer.proofs.Readings.{run-reading}
 use Rattle.printer.proofs.Ready.{Allowed, Ready}
 use Rattle.printer.proofs.StaysSound.{opened-ready, run-ready, step-fine, tell-ready}
-use Rattle.job.specs.declared.Answer.the-variants.{Done}
-use Rattle.job.specs.Calls.{Feeding, feeding, heard, limit, opening, take-bytes}
-use Rattle.job.specs.Protocol.{Delivery, answered, delivered, delivery, joined, offer}
-use Rattle.job.proofs.Accepted.{Accepted, feeding-takes, opening-accepted}
+use Rattle.protocol.specs.declared.Answer.the-variants.{Done}
+use Rattle.protocol.specs.Calls.{Feeding, feeding, heard, limit, opening, take-bytes}
+use Rattle.protocol.specs.Protocol.{Delivery, answered, delivered, delivery, joined, offer}
+use Rattle.protocol.proofs.Accepted.{Accepted, feeding-takes, opening-accepted}
 
 module _ (e : Edition) (font : List ℕ) where
   -- some bytes that fit the job, before a machine that is ready for them

@@ -13,11 +13,11 @@ use Rattle.printer.specs.Bytes.{step}
 use Rattle.printer.specs.Machine.{Machine, opened, shut, with-printer}
 use Rattle.printer.specs.Sound.{sound}
 use Rattle.printer.specs.Steps.{Step}
-use Rattle.job.specs.declared.Answer.{Answer}
-use Rattle.job.specs.declared.Answer.the-variants.{Done, Finished, Noted, JobFull, Unsound, Misfit, Guarded, WrongLines, WrongSpacing}
-use Rattle.job.specs.declared.Fit.{Fit}
-use Rattle.job.specs.declared.Fit.the-variants.{Right, Wrong}
-use Rattle.job.specs.declared.Lent.the-variants.{Page, LineStore, Staging, DownloadStore, Font}
+use Rattle.protocol.specs.declared.Answer.{Answer}
+use Rattle.protocol.specs.declared.Answer.the-variants.{Done, Finished, Noted, JobFull, Unsound, Misfit, Guarded, WrongLines, WrongSpacing}
+use Rattle.protocol.specs.declared.Fit.{Fit}
+use Rattle.protocol.specs.declared.Fit.the-variants.{Right, Wrong}
+use Rattle.protocol.specs.declared.Lent.the-variants.{Page, LineStore, Staging, DownloadStore, Font}
 
 -- the first of what is lent that has not its exact length: the page's is the form's, the line store's the edition's (L × R × 825 bytes and 2,200 numbers
 -- for the LP2); staging, download store and font have 2,048 bytes each

@@ -27,13 +27,13 @@ use Rattle.printer.proofs.Pages.{step-page}
 use Rattle.printer.proofs.Ready.{Allowed, Ready}
 use Rattle.printer.proofs.Soundness.{sound-facts}
 use Rattle.printer.proofs.StaysSound.{step-fine}
-use Rattle.job.specs.declared.Answer.{Answer}
-use Rattle.job.specs.declared.Answer.the-variants.{Done, JobFull, Misfit, Unsound}
-use Rattle.job.specs.declared.Fit.{Fit}
-use Rattle.job.specs.declared.Fit.the-variants.{Right, Wrong}
-use Rattle.job.specs.Calls.{Feeding, feed-fitted, feeding, fit, heard, limit, stopped, take-bytes}
-use Rattle.job.specs.Strikes.{feeding-strikes, fitted-strikes, if-quiet, taken-strikes}
-use Rattle.job.proofs.Accepted.{right-fitting}
+use Rattle.protocol.specs.declared.Answer.{Answer}
+use Rattle.protocol.specs.declared.Answer.the-variants.{Done, JobFull, Misfit, Unsound}
+use Rattle.protocol.specs.declared.Fit.{Fit}
+use Rattle.protocol.specs.declared.Fit.the-variants.{Right, Wrong}
+use Rattle.protocol.specs.Calls.{Feeding, feed-fitted, feeding, fit, heard, limit, stopped, take-bytes}
+use Rattle.protocol.specs.Strikes.{feeding-strikes, fitted-strikes, if-quiet, taken-strikes}
+use Rattle.protocol.proofs.Accepted.{right-fitting}
 
 module _ (e : Edition) (font : List ℕ) where
   -- the page that a call leaves, and its strikes on the form

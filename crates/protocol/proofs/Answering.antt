@@ -20,14 +20,14 @@ use Rattle.printer.proofs.Keeping.{step-counts}
 use Rattle.printer.proofs.Ready.{Allowed, Ready}
 use Rattle.printer.proofs.Soundness.{sound-facts}
 use Rattle.printer.proofs.StaysSound.{step-fine}
-use Rattle.job.specs.declared.Answer.{Answer}
-use Rattle.job.specs.declared.Answer.the-variants.{Done, Finished, Noted, JobFull, Unsound, Guarded, WrongLines, WrongSpacing}
-use Rattle.job.specs.declared.Fit.{Fit}
-use Rattle.job.specs.declared.Fit.the-variants.{Right, Wrong}
-use Rattle.job.specs.Answers.{refusal}
-use Rattle.job.specs.Protocol.{used-up}
-use Rattle.job.specs.Calls.{Feeding, Opening, feed-fitted, feeding, fit, heard, limit, open-fitted, opening, stopped, take-bytes, unopened}
-use Rattle.job.proofs.Accepted.{right-fitting}
+use Rattle.protocol.specs.declared.Answer.{Answer}
+use Rattle.protocol.specs.declared.Answer.the-variants.{Done, Finished, Noted, JobFull, Unsound, Guarded, WrongLines, WrongSpacing}
+use Rattle.protocol.specs.declared.Fit.{Fit}
+use Rattle.protocol.specs.declared.Fit.the-variants.{Right, Wrong}
+use Rattle.protocol.specs.Answers.{refusal}
+use Rattle.protocol.specs.Protocol.{used-up}
+use Rattle.protocol.specs.Calls.{Feeding, Opening, feed-fitted, feeding, fit, heard, limit, open-fitted, opening, stopped, take-bytes, unopened}
+use Rattle.protocol.proofs.Accepted.{right-fitting}
 
 -- A call that takes bytes of a piece of n is no refusal, counts the bytes that it takes, takes no more than there are, and all where it answers 0.
 record Taking (n : ℕ) (m : Machine) (f : Feeding) : Type 0 where

@@ -3,12 +3,12 @@ use Prim.Native.Nat.{ℕ}
 use mathlib.Core.Bool.{Bool, true, false}
 use mathlib.Core.List.{[], _∷_}
 use Rattle.printer.specs.Numbers.{Report, form-report, note-report}
-use Rattle.job.specs.declared.Answer.{Answer}
-use Rattle.job.specs.declared.Answer.the-variants.{Done, Finished, Noted, JobFull, Unsound, Misfit, Guarded, WrongLines, WrongSpacing}
+use Rattle.protocol.specs.declared.Answer.{Answer}
+use Rattle.protocol.specs.declared.Answer.the-variants.{Done, Finished, Noted, JobFull, Unsound, Misfit, Guarded, WrongLines, WrongSpacing}
 use Rattle.printer.specs.declared.Closing.{Closing}
 use Rattle.printer.specs.declared.Closing.the-variants as closing
-use Rattle.job.specs.declared.Lent.{Lent}
-use Rattle.job.specs.declared.Lent.the-variants.{Page, LineStore, Staging, DownloadStore, Font}
+use Rattle.protocol.specs.declared.Lent.{Lent}
+use Rattle.protocol.specs.declared.Lent.the-variants.{Page, LineStore, Staging, DownloadStore, Font}
 
 -- page, line store, staging, download store, font: wrong length
 unfoldable pub lent-number : Lent → ℕ

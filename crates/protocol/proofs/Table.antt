@@ -18,10 +18,10 @@ use Rattle.printer.proofs.Ready.{Ready}
 use Rattle.printer.proofs.Soundness.{SoundHead}
 use Rattle.printer.proofs.StaysSound.{opened-ready}
 use Rattle.printer.proofs.Table.{cases}
-use Rattle.job.specs.declared.Answer.the-variants.{Done}
-use Rattle.job.specs.Calls.{feeding}
-use Rattle.job.specs.Protocol.{Delivery, delivered, delivery, joined, outcome}
-use Rattle.job.proofs.Cutting.{any-cutting-from}
+use Rattle.protocol.specs.declared.Answer.the-variants.{Done}
+use Rattle.protocol.specs.Calls.{feeding}
+use Rattle.protocol.specs.Protocol.{Delivery, delivered, delivery, joined, outcome}
+use Rattle.protocol.proofs.Cutting.{any-cutting-from}
 
 -- a line that is no plot line is fresh
 fresh-row : (plotted : Bool) → T (not plotted) → (_≡_ {A = ℕ} 0 0) × (plotted ≡ false)

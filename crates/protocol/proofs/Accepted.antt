@@ -12,12 +12,12 @@ use Rattle.sheet.specs.Form.{lines-allowed, spacing-allowed}
 use Rattle.printer.specs.Machine.{Machine, opened}
 use Rattle.printer.proofs.Ready.{Ready, Sized}
 use Rattle.printer.proofs.Soundness.{facts-sound}
-use Rattle.job.specs.declared.Answer.the-variants.{Done, WrongLines, WrongSpacing}
-use Rattle.job.specs.declared.Fit.{Fit}
-use Rattle.job.specs.declared.Fit.the-variants.{Right, Wrong}
-use Rattle.job.specs.declared.Lent.{Lent}
-use Rattle.job.specs.declared.Lent.the-variants.{Page, LineStore, Staging, DownloadStore, Font}
-use Rattle.job.specs.Calls.{Opening, feed-fitted, feeding, fit, open-fitted, opening, take-bytes, unopened}
+use Rattle.protocol.specs.declared.Answer.the-variants.{Done, WrongLines, WrongSpacing}
+use Rattle.protocol.specs.declared.Fit.{Fit}
+use Rattle.protocol.specs.declared.Fit.the-variants.{Right, Wrong}
+use Rattle.protocol.specs.declared.Lent.{Lent}
+use Rattle.protocol.specs.declared.Lent.the-variants.{Page, LineStore, Staging, DownloadStore, Font}
+use Rattle.protocol.specs.Calls.{Opening, feed-fitted, feeding, fit, open-fitted, opening, take-bytes, unopened}
 
 -- all that is lent has its length
 pub record Fitting (e : Edition) (f : Form) (fnt : List ℕ) (m : Machine) : Type 0 where

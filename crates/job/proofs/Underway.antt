@@ -1,0 +1,76 @@
+-- A piece of which some bytes are taken: how a run and a step lead on, and how the taking ends.
+use Prim.Native.Nat.{ℕ, _+_, _-_, _≤_, _<_}
+use mathlib.Core.Bool.{true, false}
+use mathlib.Core.List.{List}
+use mathlib.Core.Path.{_≡_, refl, ap, subst, sym, _∙_}
+use native.Mathlib.Omega.{arith}
+use lib.ListN.{drop, getD, length, length-drop, take}
+use lib.Seq.{drop-drop, take-all}
+use Rattle.sheet.specs.Edition.{lp2}
+use Rattle.printer.specs.declared.Printer.{Printer}
+use Rattle.printer.specs.Bytes.{step}
+use Rattle.printer.specs.Given.{machine}
+use Rattle.printer.specs.Machine.{Machine}
+use Rattle.printer.specs.Room.{Room, Writable}
+use Rattle.printer.specs.Steps.{Step}
+use Rattle.printer.proofs.Ready.{Allowed, Ready}
+use Rattle.printer.proofs.StaysSound.{step-fine}
+use Rattle.protocol.specs.declared.Answer.the-variants.{Done, JobFull}
+use Rattle.protocol.specs.Calls.{Feeding, limit, take-bytes}
+use Rattle.protocol.specs.Given.{answer-to, given-feeding, is-quiet, more}
+use Rattle.protocol.proofs.Taking.{more-zero, ready-room, taken-all, taken-full, taken-on, taken-out}
+use Rattle.runs.specs.Leads.{Leads}
+
+-- i bytes of a piece have led from one machine to another
+pub record Underway (font piece : List ℕ) (m₀ m : Machine) (i : ℕ) : Type 0 where
+  pub ready : Ready lp2 m
+  pub within : i ≤ length piece
+  pub same : take-bytes lp2 font piece m₀ ≡ more i (take-bytes lp2 font (drop i piece) m)
+
+pub at-start : {font piece : List ℕ} {m : Machine} → Ready lp2 m → Underway font piece m m 0
+at-start h = record { ready = h; within = omega arith; same = more-zero _ }
+
+-- what a run asks for
+pub writable : {p : Printer} {page line staging store font : List ℕ} → Ready lp2 (machine p page line staging store) → length font ≡ 2048 → Writable p line store font
+writable {p} {page} {line} {staging} {store} {font} h f = let r : Room p page line staging store font = ready-room h f in record { column = r .column; line = r .line; store = r .store; resident = r .resident }
+
+-- what is left of a piece, as a part of it
+left-over : (piece : List ℕ) (i : ℕ) → i ≤ length piece → take (length piece - i) (drop i piece) ≡ drop i piece
+left-over piece i l = take-all (length piece - i) (drop i piece) (simp length-drop (omega arith))
+
+more-more : (i t : ℕ) (f : Feeding) → more i (more t f) ≡ more (i + t) f
+more-more i t f = let e : i + (t + f .taken) ≡ i + t + f .taken = omega arith in ap (λ (n : ℕ). record { answer = f .answer; taken = n; machine = f .machine }) e
+
+module _ {font piece : List ℕ} {m₀ m : Machine} {i : ℕ} (h : Underway font piece m₀ m i) where
+  -- a run more
+  pub after-run : {t : ℕ} {n : Machine} → Leads font (take (length piece - i) (drop i piece)) t m n → Underway font piece m₀ n (i + t)
+  after-run {t} {n} r =
+      let l : Leads font (drop i piece) t m n = subst (λ (bs : List ℕ). Leads font bs t m n) (left-over piece i (h .within)) r in
+      record {
+        ready = l .ready (h .ready);
+        within = let k = l .within in omega (arith, h .within, length-drop i piece);
+        same = h .same ∙ ap (more i) (l .same) ∙ more-more i t _ ∙ ap (λ (bs : List ℕ). more (i + t) (take-bytes lp2 font bs n)) (drop-drop t i piece);
+      }
+
+  pub used-up : length piece ≤ i → take-bytes lp2 font piece m₀ ≡ record { answer = Done; taken = i; machine = m }
+  used-up l = h .same ∙ taken-all font piece i m l
+
+  module _ (l : i < length piece) where
+    pub at-limit : m .printer .job ≡ limit → take-bytes lp2 font piece m₀ ≡ record { answer = JobFull; taken = i; machine = m }
+    at-limit full = h .same ∙ taken-full font piece i m l full
+
+    module _ (room : m .printer .job < limit) (s : Step) (is : s ≡ step lp2 font (getD piece i 0) m) where
+      -- a quiet byte more
+      pub after-step : is-quiet (s .event) ≡ true → Underway font piece m₀ (s .machine) (i + 1)
+      after-step q =
+          record {
+            ready = subst (λ (t : Step). Ready lp2 (t .machine)) (sym is) (step-fine (h .ready) font (getD piece i 0) .ready);
+            within = omega (arith, l);
+            same = h .same ∙ taken-on font piece i m s is l room q;
+          }
+
+      pub told : is-quiet (s .event) ≡ false → (p : Printer)
+          → take-bytes lp2 font piece m₀ ≡ given-feeding (answer-to (s .event) p (s .machine .printer) i) (s .machine .page) (s .machine .line) (s .machine .staging) (s .machine .store)
+      told n p =
+          let v : Allowed (s .event) = subst (λ (t : Step). Allowed (t .event)) (sym is) (step-fine (h .ready) font (getD piece i 0) .allowed) in
+          h .same ∙ taken-out font piece i m s is l room n v p

@@ -1,0 +1,2 @@
+-- What a run of bytes leads to, as contracts say it.
+pub mod Leads

@@ -1,0 +1,13 @@
+// Runs of like bytes, taken at one go: characters, plotted columns, payload. What a run leads to is what its bytes lead to one by one.
+use printer::Printer;
+
+// The state after a run, and how many bytes of the piece it was.
+pub struct Ran {
+    pub printer: Printer,
+    pub taken: usize,
+}
+
+pub mod payload;
+pub mod plots;
+pub mod runs;
+pub mod text;

@@ -1,0 +1,90 @@
+// A run of printing bytes.
+ghost use mathlib.Core.Path.{_≡_};
+ghost use mathlib.Core.Bool.{cond, _&&_};
+ghost use mathlib.Core.List.{List};
+ghost use Prim.Native.Nat.{ℕ, _+_, _≤_};
+ghost use lib.Dec.{leb};
+ghost use lib.ListN.{length};
+ghost use Rattle.printer.specs.Given.{machine};
+ghost use Rattle.printer.specs.Room.{Writable};
+ghost use Rattle.runs.specs.Leads.{Leads, Typing};
+use crate::Ran;
+use glyph::entering::cell;
+use glyph::entering::enter;
+use printer::Printer;
+use sheet::sizes::width;
+
+// Whether a byte prints.
+fn prints(b: u8) -> bool
+    ensures { λ r. ⌜ r ≡ (leb 0x20 b && leb b 0x7e) ⌝ }
+{
+    0x20 <= b && b <= 0x7e
+}
+
+// Whether a byte prints, and its cell, which ends before column `next`, fits a line of w columns.
+fn enters(b: u8, next: usize, w: usize) -> bool
+    ensures { λ r. ⌜ r ≡ (leb 0x20 b && leb b 0x7e && leb next w) ⌝ }
+{
+    prints(b) && next <= w
+}
+
+// The number of a byte's glyph.
+fn code(b: u8) -> usize
+    ensures { λ r. ⌜ r ≡ b ⌝ }
+{
+    b as usize
+}
+
+// Enters characters from the glyphs given, for as many of the first n bytes of a piece as print and fit the line.
+fn characters(p: Printer, piece: &[u8], n: usize, line: &mut [u16], glyphs: &[u8]) -> Ran
+    requires { ⌜ Typing p × (p .head .column ≤ 2200) × (length (now line) ≡ 2200) × (length (now glyphs) ≡ 2048) × (n ≤ length (now piece)) × (p .job + n ≤ 4294967295) ⌝ }
+    ensures { λ r. ⌜ ((page staging store font : List ℕ) → cond (p .style .downloaded) store font ≡ now (glyphs .entry)
+        → Leads font (now (piece .entry)) (r .taken) (machine p page (now (line .entry)) staging store) (machine (r .printer) page (now (line .exit)) staging store)) ⌝ }
+{
+    let style = p.style;
+    let pitch = style.pitch;
+    let w = width(pitch);
+    let each = cell(style.elongated);
+    let mut q = p;
+    let mut k = 0;
+    while k < n {
+        let b = piece[k];
+        let at = q.head.column;
+        let next = at + each;
+        if !enters(b, next, w) {
+            return Ran {
+                printer: q,
+                taken: k,
+            };
+        }
+        enter(line, glyphs, code(b), style.elongated, style.underscore, at);
+        q.head.column = next;
+        q.head.fresh = false;
+        q.job += 1;
+        k += 1;
+    }
+    Ran {
+        printer: q,
+        taken: k,
+    }
+}
+
+// The characters that a piece begins with, among its first n bytes.
+pub fn text_run(
+    p: Printer,
+    piece: &[u8],
+    n: usize,
+    line: &mut [u16],
+    store: &[u8],
+    font: &[u8],
+) -> Ran
+    requires { ⌜ Typing p × Writable p (now line) (now store) (now font) × (n ≤ length (now piece)) × (p .job + n ≤ 4294967295) ⌝ }
+    ensures { λ r. ⌜ ((page staging : List ℕ)
+        → Leads (now (font .entry)) (now (piece .entry)) (r .taken) (machine p page (now (line .entry)) staging (now (store .entry))) (machine (r .printer) page (now (line .exit)) staging (now (store .entry)))) ⌝ }
+{
+    if p.style.downloaded {
+        characters(p, piece, n, line, store)
+    } else {
+        characters(p, piece, n, line, font)
+    }
+}
