@@ -1,65 +1,103 @@
--- The steps in which a line is struck: a wire, a column, and one column after another.
+-- The steps in which a column is struck, wire by wire, and where the columns of a line stand.
 use Prim.Native.Nat.{ℕ, zero, suc, _+_, _-_, _*_, _/_, _%_, _^_, _≤_, _<_}
 use mathlib.Core.Path.{_≡_, refl, sym, ap, _∙_}
 use mathlib.Core.List.{List, [], _∷_}
 use native.Mathlib.Omega.{arith}
-use native.Mathlib.Nat.{mul-div-cancel}
-use native.Mathlib.Numerals.{add-one}
-use lib.Pow.{pow-pos, pow-add}
-use lib.Bits.{bitOr, bitAnd, and-mask}
-use lib.ListN.{length, getD, set, take, drop}
-use lib.Seq.{drop-cons, drop-length, getD-take, length-take-le}
+use native.Mathlib.Nat.{add-comm, zero-mul, one-mul}
+use lib.Pow.{pow-lt, high-ones, shl-exact, shl-shr, shr-shr}
+use lib.Bits.{bitOr, bitAnd, and-le-r, and-high, or-zero-r}
+use lib.Dec.{lit<}
+use lib.ListN.{getD, set}
+use lib.Seq.{set-getD}
+use mir.Syntax.{w8}
+use mir.Val.{Fits}
 use Rattle.sheet.specs.declared.Grid.{Grid}
 use Rattle.sheet.specs.declared.Pitch.{Pitch}
 use Rattle.sheet.specs.declared.Row.{Row}
 use Rattle.sheet.specs.Edition.{lp2}
 use Rattle.sheet.specs.Form.{lower}
-use Rattle.sheet.specs.Dots.{bit, blacken, blacken-all, mark-if, dot-at, wire-marks, column-marks, line-marks}
+use Rattle.sheet.specs.Dots.{bit, blacken, blacken-all, mark-if, dot-at, wire-marks, column-marks}
 use Rattle.sheet.proofs.Editions.{lp2-proper}
-use Rattle.sheet.proofs.Blackening.{bit-lt, blacken-all-append}
+use Rattle.sheet.proofs.Blackening.{bit-lt}
 
 -- the byte of the dot at a grid position of a row
 pub byte-of : (r : Row) (g : Grid) → r .0 * 825 + g .0 / 8 ≡ dot-at lp2 r g / 8
 unfolding dot-at lp2
 byte-of r g = omega arith
 
--- a byte's highest bit moved right
-moved : (k : ℕ) → k < 8 → 128 / 2 ^ k ≡ 2 ^ (7 - k)
-moved k h =
-    let e : 7 ≡ 7 - k + k = omega arith in
-    ap (λ (n : ℕ). 2 ^ n / 2 ^ k) e ∙ ap (λ (n : ℕ). n / 2 ^ k) (pow-add 2 (7 - k) k) ∙ mul-div-cancel (2 ^ (7 - k)) (pow-pos k)
-
--- the bit of the dot at a grid position of a row
-pub bit-of : (r : Row) (g : Grid) → 128 / 2 ^ (g .0 % 8) ≡ 2 ^ (7 - dot-at lp2 r g % 8)
+-- the bit of the dot at a grid position of a row, from the right
+shift-of : (r : Row) (g : Grid) → 7 - g .0 % 8 ≡ 7 - dot-at lp2 r g % 8
 unfolding dot-at lp2
-bit-of r g =
-    let e : g .0 % 8 ≡ (r .0 * (8 * 825) + g .0) % 8 = omega arith in
-    moved (g .0 % 8) (omega arith) ∙ ap (λ (k : ℕ). 2 ^ (7 - k)) e
+shift-of r g = omega arith
 
--- the lowest bit of a number moved right is the bit that came there
-low-bit : (column n : ℕ) → bitAnd (column / 2 ^ n) 1 ≡ bit column n
+-- the ink of the dot at a grid position of a row: a 1 moved left to its bit
+pub ink-of : (r : Row) (g : Grid) → (1 * 2 ^ (7 - g .0 % 8)) % 2 ^ 32 ≡ 2 ^ (7 - dot-at lp2 r g % 8)
+ink-of r g =
+    shl-exact 1 (7 - g .0 % 8) 32 (lit< tt) (omega arith) ∙ one-mul (2 ^ (7 - g .0 % 8)) ∙ ap (λ (s : ℕ). 2 ^ s) (shift-of r g)
+
+-- a column's wires moved left to that bit
+pub swung-of : (wires : ℕ) (r : Row) (g : Grid) → wires < 2 ^ 16 → (wires * 2 ^ (7 - g .0 % 8)) % 2 ^ 32 ≡ wires * 2 ^ (7 - dot-at lp2 r g % 8)
+swung-of wires r g h =
+    shl-exact 16 (7 - g .0 % 8) 32 h (omega arith) ∙ ap (λ (s : ℕ). wires * 2 ^ s) (shift-of r g)
+
+-- the ink is one of a byte's bits
+pub ink-fits : (g : Grid) → (1 * 2 ^ (7 - g .0 % 8)) % 2 ^ 32 < 256
+ink-fits g =
+    let k : ℕ = 7 - g .0 % 8 in
+    let e : (1 * 2 ^ k) % 2 ^ 32 ≡ 2 ^ k = shl-exact 1 k 32 (lit< tt) (omega arith) ∙ one-mul (2 ^ k) in
+    let below : k < 8 = omega arith in
+    let h : 2 ^ k < 2 ^ 8 = pow-lt below in
+    rw e h
+
+-- what is joined is no more than the ink
+pub joined-fits : (x ink : ℕ) → ink < 256 → Fits w8 (bitAnd x ink)
+joined-fits x ink h = omega (arith, and-le-r x ink)
+
+-- a number's bit s alone
+and-bit : (x s : ℕ) → bitAnd x (2 ^ s) ≡ bit x s * 2 ^ s
 unfolding bit
-low-bit column n = and-mask (column / 2 ^ n) 1
+and-bit x s =
+    let one : 2 ^ (1 + s) - 2 ^ s ≡ 2 ^ s = high-ones 1 s ∙ one-mul (2 ^ s) in
+    ap (bitAnd x) (sym one) ∙ and-high x 1 s
 
--- a wire that is set blackens its dot, some rows below the dot d, whose byte is `at` and whose bit is `ink`
-pub wire-on : (page : List ℕ) (column n d rows at ink : ℕ) → bitAnd (column / 2 ^ n) 1 ≡ 1 → at ≡ d / 8 → ink ≡ 2 ^ (7 - d % 8)
-    → set page (at + 825 * rows) (bitOr (getD page (at + 825 * rows) 0) ink) ≡ blacken-all page (mark-if (bit column n) (d + 6600 * rows) [])
+-- of wires moved left by s and right by n, bit s is their bit n
+swung-bit : (wires s n : ℕ) → bit (wires * 2 ^ s / 2 ^ n) s ≡ bit wires n
+unfolding bit
+swung-bit wires s n =
+    ap (λ (x : ℕ). x % 2)
+    (shr-shr (wires * 2 ^ s) n s
+    ∙ ap (λ (k : ℕ). wires * 2 ^ s / 2 ^ k) (add-comm n s)
+    ∙ sym (shr-shr (wires * 2 ^ s) s n)
+    ∙ ap (λ (x : ℕ). x / 2 ^ n) (shl-shr wires s))
+
+-- a byte joined with ink, once or not at all, is the page with the dot black, or as it is
+inked-byte : (page : List ℕ) (d b : ℕ) → b < 2
+    → set page (d / 8) (bitOr (getD page (d / 8) 0) (b * 2 ^ (7 - d % 8))) ≡ blacken-all page (mark-if b d [])
 unfolding blacken-all blacken mark-if
-wire-on page column n d rows at ink on byte mask =
-    let place : at + 825 * rows ≡ (d + 6600 * rows) / 8 = omega arith in
-    let spot : d % 8 ≡ (d + 6600 * rows) % 8 = omega arith in
-    ap (λ (i : ℕ). set page i (bitOr (getD page i 0) ink)) place
-    ∙ ap (λ (m : ℕ). set page ((d + 6600 * rows) / 8) (bitOr (getD page ((d + 6600 * rows) / 8) 0) m)) (mask ∙ ap (λ (k : ℕ). 2 ^ (7 - k)) spot)
-    ∙ sym (ap (λ (b : ℕ). blacken-all page (mark-if b (d + 6600 * rows) [])) (sym (low-bit column n) ∙ on))
+inked-byte page d zero h =
+    ap (λ (m : ℕ). set page (d / 8) (bitOr (getD page (d / 8) 0) m)) (zero-mul (2 ^ (7 - d % 8)))
+    ∙ ap (set page (d / 8)) (or-zero-r (getD page (d / 8) 0))
+    ∙ set-getD page (d / 8) 0
+inked-byte page d (suc zero) h = ap (λ (m : ℕ). set page (d / 8) (bitOr (getD page (d / 8) 0) m)) (one-mul (2 ^ (7 - d % 8)))
+inked-byte page d (suc (suc b)) h = absurd (omega arith)
 
--- a wire that is not set leaves the page as it is
-pub wire-off : (page : List ℕ) (column n d : ℕ) → (bitAnd (column / 2 ^ n) 1 ≡ 1 → ⊥) → page ≡ blacken-all page (mark-if (bit column n) d [])
-unfolding blacken-all mark-if
-wire-off page column n d off =
-    sym (ap (λ (b : ℕ). blacken-all page (mark-if b d [])) (clear (bit column n) (bit-lt column n) (λ p. off (low-bit column n ∙ p))))
-  where
-    clear : (b : ℕ) → b < 2 → (b ≡ 1 → ⊥) → b ≡ 0
-    clear b h no′ = omega arith
+-- a wire blackens its dot, some rows below the dot d, where it is set, and else leaves the page as it is; the byte of d is `at`, its bit is
+-- `ink`, and `swung` are the column's wires moved left to it
+pub wire-inked : (page : List ℕ) (wires n d rows at ink swung : ℕ) → at ≡ d / 8 → ink ≡ 2 ^ (7 - d % 8) → swung ≡ wires * 2 ^ (7 - d % 8)
+    → set page (at + 825 * rows) (bitOr (getD page (at + 825 * rows) 0) (bitAnd (swung / 2 ^ n) ink))
+    ≡ blacken-all page (mark-if (bit wires n) (d + 6600 * rows) [])
+wire-inked page wires n d rows at ink swung byte mask moved =
+    let s : ℕ = 7 - d % 8 in
+    let place : at + 825 * rows ≡ (d + 6600 * rows) / 8 = omega arith in
+    let spot : s ≡ 7 - (d + 6600 * rows) % 8 = omega arith in
+    let joined : bitAnd (swung / 2 ^ n) ink ≡ bit wires n * 2 ^ s =
+    ap (bitAnd (swung / 2 ^ n)) mask
+    ∙ and-bit (swung / 2 ^ n) s
+    ∙ ap (λ (x : ℕ). bit (x / 2 ^ n) s * 2 ^ s) moved
+    ∙ ap (λ (b : ℕ). b * 2 ^ s) (swung-bit wires s n) in
+    ap (λ (i : ℕ). set page i (bitOr (getD page i 0) (bitAnd (swung / 2 ^ n) ink))) place
+    ∙ ap (λ (m : ℕ). set page ((d + 6600 * rows) / 8) (bitOr (getD page ((d + 6600 * rows) / 8) 0) m)) (joined ∙ ap (λ (k : ℕ). bit wires n * 2 ^ k) spot)
+    ∙ inked-byte page (d + 6600 * rows) (bit wires n) (bit-lt wires n)
 
 -- a mark before some marks is blackened before them
 mark-first : (page : List ℕ) (b d : ℕ) (ds : List ℕ) → blacken-all page (mark-if b d ds) ≡ blacken-all (blacken-all page (mark-if b d [])) ds
@@ -98,34 +136,6 @@ wires-whole page column r g =
 pub wires-done : (page : List ℕ) (column : ℕ) (r : Row) (g : Grid) → blacken-all page (wire-marks lp2 0 column r g) ≡ page
 unfolding blacken-all wire-marks
 wires-done page column r g = refl
-
--- a column with no wire set leaves the page as it is
-pub no-wires : (page : List ℕ) (column : ℕ) (r : Row) (g : Grid) → column ≡ 0 → page ≡ blacken-all page (column-marks lp2 column r g)
-unfolding blacken-all column-marks wire-marks mark-if bit
-no-wires page column r g e = sym (ap (λ (n : ℕ). blacken-all page (column-marks lp2 n r g)) e)
-
-module _ (page line : List ℕ) (pitch : Pitch) (r : Row) (w : ℕ) (within : w ≤ length line) where
-  -- once column c is struck, the columns after it are left
-  pub column-struck : (next : List ℕ) (c : ℕ) → c < w → next ≡ blacken-all page (column-marks lp2 (getD line c 0) r (lp2 .grid pitch c))
-      → blacken-all next (line-marks lp2 (drop (c + 1) (take w line)) pitch r (c + 1)) ≡ blacken-all page (line-marks lp2 (drop c (take w line)) pitch r c)
-  unfolding line-marks
-  column-struck next c h e =
-      let columns : List ℕ = take w line in
-      let rest : List ℕ = line-marks lp2 (drop (c + 1) columns) pitch r (c + 1) in
-      let inside : c < length columns = omega (arith, length-take-le w line within) in
-      let first : drop c columns ≡ getD columns c 0 ∷ drop (c + 1) columns = rw (add-one, drop-cons columns c 0) in
-      ap (λ (p : List ℕ). blacken-all p rest) e
-      ∙ ap (λ (n : ℕ). blacken-all (blacken-all page (column-marks lp2 n r (lp2 .grid pitch c))) rest) (sym (getD-take w line c 0 h))
-      ∙ sym (blacken-all-append page (column-marks lp2 (getD columns c 0) r (lp2 .grid pitch c)) rest)
-      ∙ ap (λ (l : List ℕ). blacken-all page (line-marks lp2 l pitch r c)) (sym first)
-
-  -- at W no column is left
-  pub columns-done : (c : ℕ) → c ≡ w → blacken-all page (line-marks lp2 (drop c (take w line)) pitch r c) ≡ page
-  unfolding blacken-all line-marks
-  columns-done c e =
-      let columns : List ℕ = take w line in
-      let end : c ≡ length columns = omega (arith, length-take-le w line within) in
-      ap (λ (l : List ℕ). blacken-all page (line-marks lp2 l pitch r c)) (ap (λ (n : ℕ). drop n columns) end ∙ drop-length columns)
 
 -- a line store of 2,200 columns holds those below W
 pub below-store : (pitch : Pitch) → lp2 .width pitch ≤ 2200
