@@ -8,7 +8,7 @@ use printer::Head;
 use printer::Printer;
 use printer::Style;
 use protocol::Answer;
-use report::answer_number;
+use protocol::numbers::answer_number;
 use report::say;
 use report::say_note;
 use report::say_number;

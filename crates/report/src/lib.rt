@@ -1,61 +1,8 @@
-// What a program tells of a job: document 01's numbers, and the lines that they are written in.
-ghost use mathlib.Core.Path.{_≡_};
-ghost use Rattle.printer.specs.Numbers.{note-number};
-ghost use Rattle.protocol.specs.Answers.{lent-number, report};
+// The lines in which a program tells of a job.
 use libc::STDERR_FILENO;
 use libc::STDOUT_FILENO;
 use printer::Fault;
-use protocol::Answer;
-use protocol::Lent;
-
-// The number of a note.
-pub fn note_number(fault: Fault) -> u64
-    ensures { λ r. ⌜ r ≡ note-number fault ⌝ }
-{
-    match fault {
-        Fault::UnknownCommand => 42,
-        Fault::LineFull => 44,
-        Fault::Checksum => 45,
-        Fault::UnnamedControl => 46,
-        Fault::HighByte => 46,
-        Fault::OutOfTurn => 46,
-        Fault::WrongBytes => 46,
-        Fault::PlotLine => 46,
-        Fault::DownloadRange => 46,
-        Fault::TabLine => 48,
-        Fault::IllFormed => 80,
-    }
-}
-
-// The number of a refusal of what is lent.
-fn lent_number(lent: Lent) -> u64
-    ensures { λ r. ⌜ r ≡ lent-number lent ⌝ }
-{
-    match lent {
-        Lent::Page => 11,
-        Lent::LineStore => 12,
-        Lent::Staging => 13,
-        Lent::DownloadStore => 14,
-        Lent::Font => 15,
-    }
-}
-
-// The number of an answer.
-pub fn answer_number(answer: Answer) -> u64
-    ensures { λ r. ⌜ r ≡ report answer .number ⌝ }
-{
-    match answer {
-        Answer::Done => 0,
-        Answer::Finished => 1,
-        Answer::Noted(_, _) => 2,
-        Answer::JobFull => 3,
-        Answer::Unsound => 10,
-        Answer::Misfit(lent) => lent_number(lent),
-        Answer::Guarded => 17,
-        Answer::WrongLines => 18,
-        Answer::WrongSpacing => 19,
-    }
-}
+use protocol::numbers::note_number;
 
 // Writes words to standard output, and answers whether it took them.
 pub fn say(words: &[u8]) -> bool {

@@ -1,9 +1,9 @@
--- `note_number` meets its contract: each arm has the number of its fault.
+-- `numbers::note_number` meets its contract: each arm has the number of its fault.
 use mathlib.Core.Path.{sym, ap}
 use borrow.Author.Needs.{needs}
 use Rattle.printer.specs.Numbers.{note-number}
-use Rattle.report.proofs.note_number.Statement.{statement}
-use Rattle.report.proofs.note_number.Tie as tie
+use Rattle.protocol.proofs.numbers.note_number.Statement.{statement}
+use Rattle.protocol.proofs.numbers.note_number.Tie as tie
 
 returns : tie.Need-returns
 unfolding note-number

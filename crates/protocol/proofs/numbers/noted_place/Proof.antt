@@ -1,0 +1,97 @@
+-- `numbers::noted_place` meets its contract: each arm has what its case has.
+use mathlib.Core.Path.{sym, ap, _∙_}
+use Rattle.protocol.specs.declared.Answer.{Answer}
+use Rattle.protocol.specs.Answers.{noted-place}
+use borrow.Author.Needs.{needs}
+use Rattle.protocol.proofs.numbers.noted_place.Statement.{statement}
+use Rattle.protocol.proofs.numbers.noted_place.Tie as tie
+
+enum-known-answer : tie.Need-enum-known-answer
+enum-known-answer c = search needs
+
+cast-result : tie.Need-cast-result
+cast-result c = search needs
+
+enum-told : tie.Need-enum-told
+enum-told c = search needs
+
+enum-told-2 : tie.Need-enum-told-2
+enum-told-2 c = search needs
+
+enum-told-3 : tie.Need-enum-told-3
+enum-told-3 c = search needs
+
+enum-told-4 : tie.Need-enum-told-4
+enum-told-4 c = search needs
+
+enum-told-5 : tie.Need-enum-told-5
+enum-told-5 c = search needs
+
+enum-told-6 : tie.Need-enum-told-6
+enum-told-6 c = search needs
+
+enum-told-7 : tie.Need-enum-told-7
+enum-told-7 c = search needs
+
+enum-told-8 : tie.Need-enum-told-8
+enum-told-8 c = search needs
+
+returns : tie.Need-returns
+unfolding noted-place
+returns c = sym (ap (λ (x : Answer). noted-place x) (c .before .answer .given .1))
+
+returns-2 : tie.Need-returns-2
+unfolding noted-place
+returns-2 c = sym (ap (λ (x : Answer). noted-place x) (c .enum-told .given .1))
+
+returns-3 : tie.Need-returns-3
+unfolding noted-place
+returns-3 c = sym (ap (λ (x : Answer). noted-place x) (c .enum-told2 .given .1))
+
+returns-4 : tie.Need-returns-4
+unfolding noted-place
+returns-4 c = sym (ap (λ (x : Answer). noted-place x) (c .enum-told3 .given .1))
+
+returns-5 : tie.Need-returns-5
+unfolding noted-place
+returns-5 c = sym (ap (λ (x : Answer). noted-place x) (c .enum-told4 .given .1))
+
+returns-6 : tie.Need-returns-6
+unfolding noted-place
+returns-6 c = sym (ap (λ (x : Answer). noted-place x) (c .enum-told5 .given .1))
+
+returns-7 : tie.Need-returns-7
+unfolding noted-place
+returns-7 c = sym (ap (λ (x : Answer). noted-place x) (c .enum-told6 .given .1))
+
+returns-8 : tie.Need-returns-8
+unfolding noted-place
+returns-8 c = sym (ap (λ (x : Answer). noted-place x) (c .enum-told7 .given .1))
+
+returns-9 : tie.Need-returns-9
+unfolding noted-place
+returns-9 c = sym (ap (λ (x : Answer). noted-place x) (c .enum-told8 .given .1))
+
+pub noted-place-spec : {M : Type 1} → statement M
+noted-place-spec =
+    tie.close
+    (tie.spec
+    enum-known-answer
+    cast-result
+    enum-told
+    enum-told-2
+    enum-told-3
+    enum-told-4
+    enum-told-5
+    enum-told-6
+    enum-told-7
+    enum-told-8
+    returns
+    returns-2
+    returns-3
+    returns-4
+    returns-5
+    returns-6
+    returns-7
+    returns-8
+    returns-9)
