@@ -8,6 +8,7 @@ ghost use Rattle.sheet.specs.Edition.{lp2};
 ghost use Rattle.sheet.specs.Form.{line, rows-per-line};
 ghost use Rattle.printer.specs.Given.{given, machine};
 ghost use Rattle.printer.specs.Room.{Kept, Strikable};
+ghost use Rattle.printer.specs.Tabs.{line-tabs};
 ghost use Rattle.printer.specs.Terminators.{carriage-return, first-tab, form-feed, newline, strike, tab-to, vertical-tab};
 use printer::NextTab;
 use printer::Printer;
@@ -23,6 +24,7 @@ use state::parts::finished;
 use state::parts::fresh;
 use state::parts::guard;
 use state::parts::quiet;
+use state::tabs::tabbed;
 
 // Strikes the line in progress at the current row; the head goes to a fresh line at row `next`.
 fn strike(p: Printer, next: Row, page: &mut [u8], line: &mut [u16]) -> Printer
@@ -97,11 +99,12 @@ pub fn carriage_return(p: Printer, page: &mut [u8], line: &mut [u16]) -> Stepped
 // The first tabbed line of those below the first `above`.
 fn first_tab(p: Printer, above: usize) -> NextTab
     requires { ⌜ above ≤ 2000 ⌝ }
-    ensures { λ r. ⌜ (r ≡ first-tab (line (above + 1)) (drop above (p .tabs))) × Kept r ⌝ }
+    ensures { λ r. ⌜ (r ≡ first-tab (line (above + 1)) (drop above (line-tabs (p .tabs)))) × Kept r ⌝ }
 {
+    let tabs = p.tabs;
     let mut i = above;
-    while i < 99 {
-        if p.tabs[i] {
+    while i < 128 {
+        if tabbed(tabs, i) {
             return NextTab::Tabbed(Line(i + 1));
         }
         i += 1;

@@ -25,17 +25,16 @@ use state::parts::set_downloaded;
 use state::parts::set_elongated;
 use state::parts::set_pitch;
 use state::parts::set_underscore;
+use state::tabs::with_tab;
 
-// The tab of a line set or cleared. A line that the state has no place for is passed over.
+// The tab of a line set or cleared.
 fn tab(p: Printer, on: bool, line: Line) -> Printer
     requires { ⌜ 1 ≤ line .0 ⌝ }
     ensures { λ r. ⌜ r ≡ tab on line (bare p) .printer ⌝ }
 {
-    let i = line.0 - 1;
+    let tabs = with_tab(p.tabs, line.0 - 1, on);
     let mut q = p;
-    if i < 99 {
-        q.tabs[i] = on;
-    }
+    q.tabs = tabs;
     q
 }
 

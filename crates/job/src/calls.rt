@@ -20,6 +20,7 @@ use printer::Pending;
 use printer::Printer;
 use printer::Stepped;
 use printer::Style;
+use printer::TabSet;
 use protocol::Answer;
 use protocol::Fed;
 use protocol::Fit;
@@ -78,7 +79,7 @@ fn new_printer(form: Form) -> Printer
         underscore: false,
         downloaded: false,
     };
-    let tabs = [false; 99];
+    let tabs = TabSet { low: 0, high: 0 };
     Printer {
         form,
         job: 0,

@@ -73,7 +73,7 @@ module _ (e : Edition) {k : Kept} where
   unfolding obey alone text-byte print guarded newline vertical-tab form-feed carriage-return strike plot-byte plot escape in-turn tab-here tab plot-escape clear-tabs after-reset reset select download
   obey-keeps font (byte b) place m h = search (tell-step-keeps, keeps-cond, tab-to-keeps) depth 20
   obey-keeps font (escaped b) place m h = search (tell-step-keeps, keeps-cond) depth 20
-  obey-keeps font (tab-list ns) place m h = set-tabs-keeps ns _ (clear-tabs e m) h
+  obey-keeps font (tab-list ns) place m h = set-tabs-keeps ns _ (clear-tabs m) h
   obey-keeps font (resetting b) place m h = search (tell-step-keeps, keeps-cond) depth 20
   obey-keeps font (selecting high low) place m h = search (tell-step-keeps, keeps-cond) depth 20
   obey-keeps font (loading count address payload checksum) place m h = search (tell-step-keeps, keeps-cond) depth 20

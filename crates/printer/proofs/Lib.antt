@@ -13,4 +13,5 @@ pub mod SoundTabs
 pub mod StaysSound
 pub mod Pages
 pub mod Dots
+pub mod TabBits
 pub mod TabTurns

@@ -42,17 +42,17 @@ module _ (e : Edition) (font : List ℕ) where
     all-came bs = j + suc (suc (length bs))
 
     tabs-cut : (x : ℕ) (bs : List ℕ) (i : Items) → Counted bs i
-        → after-items e font j i bs (j + 1 + 1) (clear-tabs e m)
-        ≡ resume (cut-tabs i) (x ∷ bs) (at j Nothing m) (set-tabs e bs (j + 2) (clear-tabs e (at (all-came bs) (Tabs j) m)))
+        → after-items e font j i bs (j + 1 + 1) (clear-tabs m)
+        ≡ resume (cut-tabs i) (x ∷ bs) (at j Nothing m) (set-tabs e bs (j + 2) (clear-tabs (at (all-came bs) (Tabs j) m)))
     unfolding after-items cut-tabs resume obey clear-tabs
     tabs-cut x bs (listed ns rest) h =
         let s₁ : j + 1 + 1 ≡ j + 2 = omega arith in
         let s₂ : j + 2 + suc (length ns) ≡ j + (suc (suc (length bs)) - length rest) = omega arith in
-        rw (set-tabs-at e ns (j + 2) (j + (suc (suc (length bs)) - length rest)) Nothing (clear-tabs e m), s₁, s₂)
+        rw (set-tabs-at e ns (j + 2) (j + (suc (suc (length bs)) - length rest)) Nothing (clear-tabs m), s₁, s₂)
     tabs-cut x bs unended h =
         let s₁ : j + 1 + 1 ≡ j + 2 = omega arith in
         let s₂ : j + 2 + length bs ≡ all-came bs = omega arith in
-        rw (set-tabs-at e bs (j + 2) (all-came bs) (Tabs j) (clear-tabs e m), s₁, s₂)
+        rw (set-tabs-at e bs (j + 2) (all-came bs) (Tabs j) (clear-tabs m), s₁, s₂)
 
     reset-cut : (x : ℕ) (bs : List ℕ)
         → run e font bs (at (j + 1 + 1) (Reset j) m) ≡ resume (cut-reset bs) (x ∷ bs) (at j Nothing m) (silent (at (all-came bs) (Reset j) m))
@@ -99,7 +99,7 @@ module _ (e : Edition) (font : List ℕ) where
       letter-cut : (t₁ t₂ t₃ t₄ : Bool) → m .printer .head .plotting ≡ false
           → then
           (tell-step e
-          (cond t₁ (waiting (Tabs j) (clear-tabs e (at (j + 1 + 1) (Escape j) m)))
+          (cond t₁ (waiting (Tabs j) (clear-tabs (at (j + 1 + 1) (Escape j) m)))
           (cond t₂ (waiting (Reset j) (at (j + 1 + 1) (Escape j) m))
           (cond t₃ (waiting (CountHigh j) (at (j + 1 + 1) (Escape j) m))
           (cond t₄ (waiting (Select j) (at (j + 1 + 1) (Escape j) m))
@@ -108,19 +108,19 @@ module _ (e : Edition) (font : List ℕ) where
           ≡ resume
           (cond t₁ (cut-tabs (items bs)) (cond t₂ (cut-reset bs) (cond t₃ (cut-download bs) (cond t₄ (cut-select bs) (whole (escaped b) bs)))))
           (b ∷ bs) (at j Nothing m)
-          (cond t₁ (set-tabs e bs (j + 2) (clear-tabs e (at (all-came bs) (Tabs j) m)))
+          (cond t₁ (set-tabs e bs (j + 2) (clear-tabs (at (all-came bs) (Tabs j) m)))
           (cond t₂ (silent (at (all-came bs) (Reset j) m))
           (cond t₃ (silent (leave-download e font bs j (at (all-came bs) Nothing m)))
           (silent (leave-select e font bs j (at (all-came bs) Nothing m))))))
       unfolding tell-step tell clear-tabs resume obey
-      letter-cut true t₂ t₃ t₄ h = tabs-run e font j bs (j + 1 + 1) (clear-tabs e m) ∙ tabs-cut b bs (items bs) (items-counted bs)
+      letter-cut true t₂ t₃ t₄ h = tabs-run e font j bs (j + 1 + 1) (clear-tabs m) ∙ tabs-cut b bs (items bs) (items-counted bs)
       letter-cut false true t₃ t₄ h = reset-cut b bs
       letter-cut false false true t₄ h = download-cut b bs
       letter-cut false false false true h = select-cut b bs
       letter-cut false false false false h = simp (h, counts)
 
       escape-run : (t : Bool) → m .printer .head .plotting ≡ t
-          → then (tell-step e (cond t (plot-escape e b j (at (j + 1 + 1) Nothing m)) (text-escape e b j (at (j + 1 + 1) (Escape j) m)))) (run e font bs)
+          → then (tell-step e (cond t (plot-escape e b j (at (j + 1 + 1) Nothing m)) (text-escape b j (at (j + 1 + 1) (Escape j) m)))) (run e font bs)
           ≡ read-cut e font (run e font) (cut-escape t (b ∷ bs)) (b ∷ bs) (at j Nothing m)
       unfolding text-escape cut-escape leave clear-tabs read-cut obey
       escape-run true h = simp (h, counts)

@@ -18,6 +18,7 @@ use Rattle.printer.specs.declared.Pending.{Pending}
 use Rattle.printer.specs.declared.Pending.the-variants.{Nothing, Escape, Tabs, Reset, Select, SelectLow, CountHigh, CountLow, AddressHigh, AddressLow, Payload}
 use Rattle.printer.specs.declared.Printer.{Printer}
 use Rattle.printer.specs.Sound.{begun, form-sound, fresh-sound, load-sound, at-most-escape, place-sound, plot-sound, sound, tabs-sound, untabbed}
+use Rattle.printer.specs.Tabs.{line-tabs}
 
 pub record SoundForm (e : Edition) (f : Form) : Type 0 where
   pub some : 1 ≤ f .lines
@@ -58,7 +59,7 @@ SoundPlot h q = T (h .plotting) → (h .plotted ≡ true) × (at-most-escape q �
 pub record Sound (e : Edition) (p : Printer) : Type 0 where
   pub form : SoundForm e (p .form)
   pub head : SoundHead (p .form) (e .width (p .style .pitch)) (p .head)
-  pub tabs : SoundTabs (p .form .lines) (p .tabs)
+  pub tabs : SoundTabs (p .form .lines) (line-tabs (p .tabs))
   pub load : SoundLoad (p .pending)
   pub place : SoundPlace (p .job) (begun (p .pending))
   pub plot : SoundPlot (p .head) (p .pending)
@@ -182,7 +183,7 @@ module _ (e : Edition) (p : Printer) where
       record {
         form = form-facts e (p .form) (a₁ .0);
         head = record { row = leb-true _ _ (a₁ .1); column = leb-true _ _ (a₂ .1); fresh = fresh-facts (p .head) (a₆ .1) };
-        tabs = tabs-facts (p .form) (p .tabs) (a₃ .1);
+        tabs = tabs-facts (p .form) (line-tabs (p .tabs)) (a₃ .1);
         load = load-facts (p .pending) (a₄ .1);
         place = place-facts (p .job) (begun (p .pending)) (a₅ .1);
         plot = plot-facts (p .head) (p .pending) (a₇ .1);
@@ -195,7 +196,7 @@ module _ (e : Edition) (p : Printer) where
         form-tested e (p .form) (h .form),
         le-leb _ _ (h .head .row),
         le-leb _ _ (h .head .column),
-        tabs-tested (p .form) (p .tabs) (h .tabs),
+        tabs-tested (p .form) (line-tabs (p .tabs)) (h .tabs),
         load-tested (p .pending) (h .load),
         place-tested (p .job) (begun (p .pending)) (h .place),
         fresh-tested (p .head) (h .head .fresh),

@@ -38,9 +38,10 @@ use Rattle.printer.specs.Plotting.{plot, plot-byte, plot-escape, leave-p
 use Rattle.printer.specs.Printing.{entered, moved-to, print}
 use Rattle.printer.specs.Sound.{begun, at-most-escape}
 use Rattle.printer.specs.Steps.{Step, tell, tell-step}
+use Rattle.printer.specs.Tabs.{line-tabs}
 use Rattle.printer.specs.Terminators.{carriage-return, current-line, form-feed, guarded, newline, strike, tab-to, vertical-tab}
 use Rattle.printer.proofs.Ready.{Fine, Ready, fine, fine-cond, fine-finished, fine-noted, fine-quiet, fine-test, length-empty-store}
-use Rattle.printer.proofs.SoundTabs.{Inside, first-tab-inside, tab-set, tabs-cleared}
+use Rattle.printer.proofs.SoundTabs.{Inside, first-tab-inside, tab-put, tabs-cleared}
 use Rattle.printer.proofs.Soundness.{Sound, SoundHead, SoundLoad, SoundPlace, SoundPlot}
 
 lt-add-one : (a b : ℕ) → a < b → a + 1 ≤ b
@@ -114,8 +115,8 @@ module _ {e : Edition} {m : Machine} (h : Ready e m) where
       let n : Line = current-line m in
       guarded-fine _
       (tab-to-fine _ _
-      (first-tab-inside (form .lines) (next-line n) (drop (lines-through n) (m .printer .tabs)) (omega arith) (λ i t. omega (arith, h .printer .tabs .inside (lines-through n + i) (rw getD-drop at t))))
-      (first-tab-inside (form .lines) first-line (m .printer .tabs) (omega arith) (λ i t. omega (arith, h .printer .tabs .inside i t))))
+      (first-tab-inside (form .lines) (next-line n) (drop (lines-through n) (line-tabs (m .printer .tabs))) (omega arith) (λ i t. omega (arith, h .printer .tabs .inside (lines-through n + i) (rw getD-drop at t))))
+      (first-tab-inside (form .lines) first-line (line-tabs (m .printer .tabs)) (omega arith) (λ i t. omega (arith, h .printer .tabs .inside i t))))
 
   moved-sound : (c : ℕ) → c ≤ width → SoundHead form width (moved-to c (m .printer .head))
   moved-sound c l = record { row = h .printer .head .row; column = l; fresh = λ t. absurd t }
@@ -158,7 +159,7 @@ module _ {e : Edition} {m : Machine} (h : Ready e m) where
 
   tab-ready : (on : Bool) (n : Line) → 1 ≤ n .0 → n .0 ≤ form .lines → Ready e (tab on n m)
   unfolding tab
-  tab-ready on n l k = let i : lines-above n < form .lines = omega arith in search (tab-set (h .printer .tabs))
+  tab-ready on n l k = let i : lines-above n < form .lines = omega arith in search (tab-put (m .printer .tabs) (h .printer .tabs))
 
   tab-here-ready : (on : Bool) → Ready e (tab-here on m)
   unfolding tab-here line-of
@@ -171,7 +172,7 @@ module _ {e : Edition} {m : Machine} (h : Ready e m) where
       (λ q. let p = and-eq-true-iff _ _ .0 q in fine-quiet (tab-ready true (line n) (leb-true _ _ (p .0)) (leb-true _ _ (p .1))))
       (λ _. fine-noted h)
 
-  clear-tabs-ready : Ready e (clear-tabs e m)
+  clear-tabs-ready : Ready e (clear-tabs m)
   unfolding clear-tabs
   clear-tabs-ready = search tabs-cleared
 
@@ -230,7 +231,7 @@ module _ {e : Edition} {m : Machine} (h : Ready e m) where
 
 -- One byte, by what is pending, with the byte counted.
 module _ {e : Edition} {m : Machine} (h : Ready e m) where
-  text-escape-fine : (b place : ℕ) → place < m .printer .job → m .printer .head .plotting ≡ false → Fine e (text-escape e b place m)
+  text-escape-fine : (b place : ℕ) → place < m .printer .job → m .printer .head .plotting ≡ false → Fine e (text-escape b place m)
   unfolding text-escape clear-tabs
   text-escape-fine b place l q =
       let off : T (m .printer .head .plotting) → ⊥ = λ t. subst T q t in
@@ -311,7 +312,7 @@ opened-ready e f l s =
           record {
             form = record { some = some; most = leb-true _ _ (a .1); spacing = s };
             head = record { row = row; column = omega arith; fresh = λ _. (refl, refl) };
-            tabs = tabs-cleared e (f .lines);
+            tabs = tabs-cleared (f .lines);
             load = tt;
             place = tt;
             plot = λ t. absurd t;

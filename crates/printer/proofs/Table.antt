@@ -5,7 +5,8 @@ use Rattle.sheet.specs.Form.{lines-allowed, spacing-allowed, rows-per-line, for
 use Rattle.sheet.specs.Dots.{bit}
 use Rattle.glyph.specs.Words.{word, column, small-words, share, apart, well-formed, all-well-formed}
 use Rattle.glyph.specs.Entering.{cell, or-in, enter-narrow, enter-wide, underscore, enter-glyph, enter}
-use Rattle.printer.specs.Machine.{empty-store, no-tabs}
+use Rattle.printer.specs.Machine.{empty-store}
+use Rattle.printer.specs.Tabs.{line-tabs, no-tabs, put-bit, with-tab, word-tabs}
 use Rattle.printer.specs.Sound.{form-sound, untabbed, tabs-sound, fresh-sound, plot-sound, sound}
 use Rattle.printer.specs.Closing.{close-line, close-command, closing}
 use Rattle.printer.specs.Steps.{tell, tell-step}
@@ -21,5 +22,5 @@ use Rattle.printer.specs.Commands.{item, items, cut-tabs, cut-reset, cut
 use Rattle.printer.specs.Table.{look-at, table, stated, found, Holds}
 
 pub cases : Holds
-unfolding lp2 lines-allowed spacing-allowed rows-per-line form-rows empty-line first-row line-of has-line fits word column small-words share apart well-formed all-well-formed cell or-in enter-narrow enter-wide underscore enter-glyph enter empty-store no-tabs form-sound untabbed tabs-sound fresh-sound plot-sound sound close-line close-command closing tell tell-step note-number told-report entered print guarded first-tab strike newline form-feed carriage-return tab-to vertical-tab tab tab-here clear-tabs tab-item in-turn after-reset reset select escape plot plot-byte plot-escape stage total out-of-range replaced download text-byte alone first-byte text-escape second-byte tab-byte payload-byte act step run item items cut-tabs cut-reset cut-select cut-checksum cut-download cut-escape cut set-tabs obey leave-download leave-select leave read-cut read reading look-at table stated found bit
+unfolding lp2 lines-allowed spacing-allowed rows-per-line form-rows empty-line first-row line-of has-line fits word column small-words share apart well-formed all-well-formed cell or-in enter-narrow enter-wide underscore enter-glyph enter empty-store word-tabs line-tabs no-tabs put-bit with-tab form-sound untabbed tabs-sound fresh-sound plot-sound sound close-line close-command closing tell tell-step note-number told-report entered print guarded first-tab strike newline form-feed carriage-return tab-to vertical-tab tab tab-here clear-tabs tab-item in-turn after-reset reset select escape plot plot-byte plot-escape stage total out-of-range replaced download text-byte alone first-byte text-escape second-byte tab-byte payload-byte act step run item items cut-tabs cut-reset cut-select cut-checksum cut-download cut-escape cut set-tabs obey leave-download leave-select leave read-cut read reading look-at table stated found bit
 cases = record { by-bytes = λ font. refl; by-commands = λ font. refl }

@@ -29,9 +29,9 @@ unfoldable pub first-byte : Edition → List ℕ → ℕ → ℕ → Machine →
 first-byte e font b place m = cond (eqb b 0x1b) (waiting (Escape place) m) (alone e font b place m)
 
 -- after ESC outside plot mode: F, c, Y and N begin longer commands; all tabs are cleared at F
-unfoldable pub text-escape : Edition → ℕ → ℕ → Machine → Step
-text-escape e b place m =
-    cond (eqb b 0x46) (waiting (Tabs place) (clear-tabs e m))
+unfoldable pub text-escape : ℕ → ℕ → Machine → Step
+text-escape b place m =
+    cond (eqb b 0x46) (waiting (Tabs place) (clear-tabs m))
     (cond (eqb b 0x63) (waiting (Reset place) m)
     (cond (eqb b 0x59) (waiting (CountHigh place) m)
     (cond (eqb b 0x4e) (waiting (Select place) m)
@@ -39,7 +39,7 @@ text-escape e b place m =
 
 -- the byte after ESC
 unfoldable pub second-byte : Edition → ℕ → ℕ → Machine → Step
-second-byte e b place m = cond (m .printer .head .plotting) (plot-escape e b place (ended m)) (text-escape e b place m)
+second-byte e b place m = cond (m .printer .head .plotting) (plot-escape e b place (ended m)) (text-escape b place m)
 
 -- a byte of a tab list: 00 ends it, any other is an item, at its own place
 unfoldable pub tab-byte : ℕ → ℕ → Machine → Step

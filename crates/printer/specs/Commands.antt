@@ -99,7 +99,7 @@ module _ (e : Edition) (font : List ℕ) where
   unfoldable pub obey : Command → ℕ → Machine → Outcome
   obey (byte b) place m = tell-step e (alone e font b place m)
   obey (escaped b) place m = tell-step e (cond (m .printer .head .plotting) (plot-escape e b place m) (escape b place m))
-  obey (tab-list ns) place m = set-tabs e ns (place + 2) (clear-tabs e m)
+  obey (tab-list ns) place m = set-tabs e ns (place + 2) (clear-tabs m)
   obey (resetting b) place m = tell-step e (reset e b place m)
   obey (selecting high low) place m = tell-step e (select high low place m)
   obey (loading count address payload checksum) place m =
@@ -125,7 +125,7 @@ module _ (e : Edition) (font : List ℕ) where
   unfoldable pub leave : List ℕ → ℕ → Machine → Outcome
   leave [] place m = silent (with-pending (Escape place) m)
   leave (b ∷ bs) place m =
-      cond (eqb b 0x46) (set-tabs e bs (place + 2) (with-pending (Tabs place) (clear-tabs e m)))
+      cond (eqb b 0x46) (set-tabs e bs (place + 2) (with-pending (Tabs place) (clear-tabs m)))
       (cond (eqb b 0x63) (silent (with-pending (Reset place) m))
       (cond (eqb b 0x59) (silent (leave-download bs place m))
       (silent (leave-select bs place m))))

@@ -2,7 +2,6 @@
 use Prim.Native.Nat.{ℕ}
 use mathlib.Core.Bool.{Bool, true, false, cond, _&&_}
 use lib.Dec.{eqb}
-use lib.ListN.{set}
 use Rattle.sheet.specs.declared.Line.{Line}
 use Rattle.sheet.specs.declared.Pitch.{Pitch}
 use Rattle.sheet.specs.declared.Pitch.the-variants.{Normal, Compressed}
@@ -11,21 +10,22 @@ use Rattle.sheet.specs.Form.{empty-line, has-line, line, lines-above}
 use Rattle.printer.specs.declared.Fault.the-variants.{OutOfTurn, TabLine, UnknownCommand, WrongBytes}
 use Rattle.printer.specs.declared.Head.{Head}
 use Rattle.printer.specs.declared.Style.{Style}
-use Rattle.printer.specs.Machine.{Machine, empty-store, fresh-head, no-tabs, plain-style, with-head, with-line, with-store, with-style, with-tabs}
+use Rattle.printer.specs.Machine.{Machine, empty-store, fresh-head, plain-style, with-head, with-line, with-store, with-style, with-tabs}
 use Rattle.printer.specs.Steps.{Step, noted, quiet}
+use Rattle.printer.specs.Tabs.{no-tabs, with-tab}
 use Rattle.printer.specs.Terminators.{current-line}
 
 -- the tab of a line set or cleared
 unfoldable pub tab : Bool → Line → Machine → Machine
-tab on n m = with-tabs (set (m .printer .tabs) (lines-above n) on) m
+tab on n m = with-tabs (with-tab on (lines-above n) (m .printer .tabs)) m
 
 -- 5, 6: a vertical tab set or cleared at the current line
 unfoldable pub tab-here : Bool → Machine → Machine
 tab-here on m = tab on (current-line m) m
 
 -- all tabs cleared
-unfoldable pub clear-tabs : Edition → Machine → Machine
-clear-tabs e m = with-tabs (no-tabs e) m
+unfoldable pub clear-tabs : Machine → Machine
+clear-tabs m = with-tabs no-tabs m
 
 -- F: an item of the list, at its own place: n in 1..L is set; other n: note 48, skipped
 unfoldable pub tab-item : ℕ → ℕ → Machine → Step
@@ -67,7 +67,7 @@ in-turn place m after = cond (m .printer .head .fresh) (quiet after) (noted OutO
 
 -- the line dropped (store zeroed, column 0, no plot line), tabs and features off, normal pitch, download store zeroed; the row stays
 unfoldable pub after-reset : Edition → Machine → Machine
-after-reset e m = with-store empty-store (with-line (empty-line e) (with-style plain-style (with-head (fresh-head (m .printer .head .row)) (clear-tabs e m))))
+after-reset e m = with-store empty-store (with-line (empty-line e) (with-style plain-style (with-head (fresh-head (m .printer .head .row)) (clear-tabs m))))
 
 -- c 00: reset; another byte than 00: note 46
 unfoldable pub reset : Edition → ℕ → ℕ → Machine → Step

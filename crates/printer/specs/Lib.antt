@@ -1,5 +1,6 @@
 -- The printer: its state and memory, what is sound, the rules of document 01 command by command, and its two readings: byte by byte, and the
 -- whole job as a list of commands.
+pub mod Tabs
 pub mod Machine
 pub mod Sound
 pub mod Closing

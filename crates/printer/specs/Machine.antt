@@ -1,6 +1,6 @@
 -- The printer with the memory that it is lent. Document 01, "Memory lent".
 use Prim.Native.Nat.{ℕ}
-use mathlib.Core.Bool.{Bool, true, false}
+use mathlib.Core.Bool.{true, false}
 use mathlib.Core.List.{List}
 use lib.ListN.{replicate}
 use Rattle.sheet.specs.declared.Form.{Form}
@@ -13,6 +13,8 @@ use Rattle.printer.specs.declared.Pending.{Pending}
 use Rattle.printer.specs.declared.Pending.the-variants.{Nothing}
 use Rattle.printer.specs.declared.Printer.{Printer}
 use Rattle.printer.specs.declared.Style.{Style}
+use Rattle.printer.specs.declared.TabSet.{TabSet}
+use Rattle.printer.specs.Tabs.{no-tabs}
 
 -- the state, the page, the line store, the staging store and the download store
 pub record Machine : Type 0 where
@@ -26,10 +28,6 @@ pub record Machine : Type 0 where
 unfoldable pub empty-store : List ℕ
 empty-store = replicate 2048 0
 
--- no tab at any line
-unfoldable pub no-tabs : Edition → List Bool
-no-tabs e = replicate (e .longest) false
-
 -- the head on a fresh line at a row
 abbrev pub fresh-head : Row → Head
 fresh-head r = record { row = r; column = 0; fresh = true; plotted = false; plotting = false }
@@ -40,7 +38,7 @@ plain-style = record { pitch = Normal; elongated = false; underscore = false; do
 
 -- the state at the start of a job: row 0, column 0, normal pitch, all features off, no tabs
 abbrev pub new-printer : Edition → Form → Printer
-new-printer e f = record { form = f; job = 0; pending = Nothing; head = fresh-head top; style = plain-style; tabs = no-tabs e }
+new-printer e f = record { form = f; job = 0; pending = Nothing; head = fresh-head top; style = plain-style; tabs = no-tabs }
 
 -- the shut state, L = 0
 abbrev pub shut : Edition → Printer
@@ -86,7 +84,7 @@ with-style s m =
     let p : Printer = m .printer in
     with-printer (record { form = p .form; job = p .job; pending = p .pending; head = p .head; style = s; tabs = p .tabs }) m
 
-abbrev pub with-tabs : List Bool → Machine → Machine
+abbrev pub with-tabs : TabSet → Machine → Machine
 with-tabs t m =
     let p : Printer = m .printer in
     with-printer (record { form = p .form; job = p .job; pending = p .pending; head = p .head; style = p .style; tabs = t }) m

@@ -34,5 +34,5 @@ pub record Room (p : Printer) (pg ln sg st font : List ℕ) : Type 0 where
 
 -- a tabbed line that was found is one that the state has a place for
 abbrev pub Kept : NextTab → Type 0
-Kept (Tabbed n) = (1 ≤ n .0) × (n .0 ≤ 99)
+Kept (Tabbed n) = (1 ≤ n .0) × (n .0 ≤ 128)
 Kept Untabbed = Unit {0}

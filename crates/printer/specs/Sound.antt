@@ -14,6 +14,7 @@ use Rattle.printer.specs.declared.Head.{Head}
 use Rattle.printer.specs.declared.Pending.{Pending}
 use Rattle.printer.specs.declared.Pending.the-variants.{Nothing, Escape, Tabs, Reset, Select, SelectLow, CountHigh, CountLow, AddressHigh, AddressLow, Payload}
 use Rattle.printer.specs.declared.Printer.{Printer}
+use Rattle.printer.specs.Tabs.{line-tabs}
 
 -- where the pending command began: the place of its first byte
 abbrev pub begun : Pending → Begun
@@ -89,7 +90,7 @@ sound e p =
     form-sound e (p .form)
     && fits (p .form) (p .head .row)
     && leb (p .head .column) (e .width (p .style .pitch))
-    && tabs-sound (p .form) (p .tabs)
+    && tabs-sound (p .form) (line-tabs (p .tabs))
     && load-sound (p .pending)
     && place-sound (p .job) (begun (p .pending))
     && fresh-sound (p .head)

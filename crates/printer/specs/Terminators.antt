@@ -11,6 +11,7 @@ use Rattle.printer.specs.declared.NextTab.{NextTab}
 use Rattle.printer.specs.declared.NextTab.the-variants.{Tabbed, Untabbed}
 use Rattle.printer.specs.Machine.{Machine, fresh-head, with-head, with-line, with-page}
 use Rattle.printer.specs.Steps.{Step, finished, guard, quiet}
+use Rattle.printer.specs.Tabs.{line-tabs}
 
 -- the line that the head stands in
 abbrev pub current-line : Machine → Line
@@ -59,4 +60,4 @@ module _ (e : Edition) where
   unfoldable pub vertical-tab : Machine → Step
   vertical-tab m =
       let n : Line = current-line m in
-      guarded m (tab-to (first-tab (next-line n) (drop (lines-through n) (m .printer .tabs))) (first-tab first-line (m .printer .tabs)) m)
+      guarded m (tab-to (first-tab (next-line n) (drop (lines-through n) (line-tabs (m .printer .tabs)))) (first-tab first-line (line-tabs (m .printer .tabs))) m)

@@ -44,14 +44,20 @@ pub enum Pending {
     Payload(u32, Load),
 }
 
-// The state. `job` counts the bytes of the job so far; `tabs` has a place for each line that a form may have, line 1 first.
+// The vertical tabs: bit n − 1 of the two words, counted from the low one's lowest, is line n's.
+pub struct TabSet {
+    pub low: u64,
+    pub high: u64,
+}
+
+// The state. `job` counts the bytes of the job so far.
 pub struct Printer {
     pub form: Form,
     pub job: u32,
     pub pending: Pending,
     pub head: Head,
     pub style: Style,
-    pub tabs: [bool; 99],
+    pub tabs: TabSet,
 }
 
 // Where the pending command began: the place of its first byte.

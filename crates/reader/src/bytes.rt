@@ -113,7 +113,7 @@ fn first_byte(
 
 // The byte after ESC, outside plot mode.
 fn text_escape(p: Printer, b: u8, place: u32) -> Stepped
-    ensures { λ r. ⌜ ((m : Machine) → over m r ≡ text-escape lp2 b place (with-printer p m)) ⌝ }
+    ensures { λ r. ⌜ ((m : Machine) → over m r ≡ text-escape b place (with-printer p m)) ⌝ }
 {
     match b {
         0x46 => waiting(clear_tabs(p), Pending::Tabs(place)),

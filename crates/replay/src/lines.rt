@@ -7,6 +7,7 @@ use printer::Closing;
 use printer::Head;
 use printer::Printer;
 use printer::Style;
+use printer::TabSet;
 use protocol::Answer;
 use protocol::numbers::answer_number;
 use report::say;
@@ -14,6 +15,7 @@ use report::say_note;
 use report::say_number;
 use sheet::Pitch;
 use sheet::Row;
+use state::tabs::tabbed;
 
 // Writes words, a number and the line's end.
 pub fn say_line(words: &[u8], number: u64) -> bool {
@@ -96,17 +98,17 @@ fn say_head(head: Head, style: Style) -> bool {
 }
 
 // Writes a line's number after a space if it has a tab.
-fn say_tab(line: u64, tabbed: bool) -> bool {
-    if tabbed { say_number(b" ", line) } else { true }
+fn say_tab(line: u64, on: bool) -> bool {
+    if on { say_number(b" ", line) } else { true }
 }
 
 // Writes the numbers of the tabbed lines.
-fn say_tabbed(tabs: [bool; 99]) -> bool {
+fn say_tabbed(tabs: TabSet) -> bool {
     let mut i = 0;
-    while i < 99 {
-        let tabbed = tabs[i];
+    while i < 128 {
+        let on = tabbed(tabs, i);
         i += 1;
-        if !say_tab(i as u64, tabbed) {
+        if !say_tab(i as u64, on) {
             return false;
         }
     }
@@ -114,7 +116,7 @@ fn say_tabbed(tabs: [bool; 99]) -> bool {
 }
 
 // Writes the line of the tabs.
-fn say_tabs(tabs: [bool; 99]) -> bool {
+fn say_tabs(tabs: TabSet) -> bool {
     say(b"TABS") && say_tabbed(tabs) && say(b"\n")
 }
 

@@ -37,11 +37,11 @@ pub form-rows-most : (f : Form) → f .lines ≤ 99 → form-rows f ≤ 1188
 unfolding form-rows
 form-rows-most f h = omega (arith, mul-le-mul-right (rows-per-line (f .spacing)) h, twelve-rows (f .spacing))
 
--- a line up to line 99 has its first row at 1,176 at most
-pub first-row-most : (f : Form) (n : Line) → n .0 ≤ 99 → first-row f n .0 ≤ 1176
+-- a line up to line 128 has its first row at 1,524 at most
+pub first-row-most : (f : Form) (n : Line) → n .0 ≤ 128 → first-row f n .0 ≤ 1524
 unfolding first-row
 first-row-most f n h =
-    let above : n .0 - 1 ≤ 98 = omega arith in
+    let above : n .0 - 1 ≤ 127 = omega arith in
     omega (arith, mul-le-mul-right (rows-per-line (f .spacing)) above, twelve-rows (f .spacing))
 
 -- the line of row r is at most 1 + r ÷ 9

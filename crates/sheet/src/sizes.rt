@@ -50,7 +50,7 @@ pub fn page_bytes(form: Form) -> usize
 // The first row of a line.
 pub fn first_row(form: Form, line: Line) -> Row
     requires { ⌜ 1 ≤ line .0 ⌝ }
-    requires { ⌜ line .0 ≤ 99 ⌝ }
+    requires { ⌜ line .0 ≤ 128 ⌝ }
     ensures { λ r. ⌜ r ≡ first-row form line ⌝ }
 {
     Row((line.0 - 1) * rows_per_line(form.spacing))

@@ -1,3 +1,4 @@
-// The state: one part of it changed, which states are sound, and what is said of a job that is closed.
+// The state: its tabs, one part of it changed, which states are sound, and what is said of a job that is closed.
 pub mod parts;
 pub mod sound;
+pub mod tabs;

@@ -14,6 +14,7 @@ use printer::Pending;
 use printer::Printer;
 use printer::Stepped;
 use printer::Style;
+use printer::TabSet;
 use sheet::Pitch;
 use sheet::Row;
 
@@ -159,9 +160,9 @@ pub fn leave_plot(p: Printer) -> Printer
 }
 
 pub fn clear_tabs(p: Printer) -> Printer
-    ensures { λ r. ⌜ r ≡ clear-tabs lp2 (bare p) .printer ⌝ }
+    ensures { λ r. ⌜ r ≡ clear-tabs (bare p) .printer ⌝ }
 {
-    let none = [false; 99];
+    let none = TabSet { low: 0, high: 0 };
     let mut q = p;
     q.tabs = none;
     q

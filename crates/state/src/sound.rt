@@ -4,6 +4,7 @@ ghost use Prim.Native.Nat.{_≤_};
 ghost use Rattle.sheet.specs.Edition.{lp2};
 ghost use Rattle.printer.specs.Closing.{closing};
 ghost use Rattle.printer.specs.Sound.{at-most-escape, begun, form-sound, fresh-sound, load-sound, place-sound, plot-sound, sound, tabs-sound};
+ghost use Rattle.printer.specs.Tabs.{line-tabs};
 use printer::Begun;
 use printer::Closing;
 use printer::Head;
@@ -42,14 +43,15 @@ fn form_sound(form: Form) -> bool
 
 // Tabs lie on lines of the form.
 fn tabs_sound(p: Printer) -> bool
-    ensures { λ r. ⌜ r ≡ tabs-sound (p .form) (p .tabs) ⌝ }
+    ensures { λ r. ⌜ r ≡ tabs-sound (p .form) (line-tabs (p .tabs)) ⌝ }
 {
-    let mut i = p.form.lines;
-    while i < 99 {
-        if p.tabs[i] {
-            return false;
-        }
-        i += 1;
+    let lines = p.form.lines;
+    let tabs = p.tabs;
+    if lines < 64 {
+        return tabs.low >> lines == 0 && tabs.high == 0;
+    }
+    if lines < 128 {
+        return tabs.high >> (lines - 64) == 0;
     }
     true
 }

@@ -1,11 +1,10 @@
 use borrow.Author.Needs.{needs}
-use Rattle.sheet.specs.Edition.{lp2}
-use Rattle.printer.specs.Machine.{no-tabs}
+use Rattle.printer.specs.Tabs.{no-tabs}
 use Rattle.job.proofs.calls.new_printer.Statement.{statement}
 use Rattle.job.proofs.calls.new_printer.Tie as tie
 
 returns : tie.Need-returns
-unfolding no-tabs lp2
+unfolding no-tabs
 returns c = search needs
 
 pub new-printer-spec : {M : Type 1} → statement M

@@ -5,10 +5,10 @@ use Rattle.replay.proofs.lines.say_tabbed.Statement.{statement}
 use Rattle.replay.proofs.lines.say_tabbed.Tie as tie
 
 abbrev Inv-loop : tie.InvT-loop
-Inv-loop tabs i₀ i = i ≤ 99
+Inv-loop tabs i₀ i = i ≤ 128
 
 abbrev μ-loop : tie.MeasureT-loop
-μ-loop tabs i₀ i = 99 - i
+μ-loop tabs i₀ i = 128 - i
 
 pub say-tabbed-spec : {M : Type 1} → statement M
 say-tabbed-spec =

@@ -1,12 +1,11 @@
 use borrow.Author.Needs.{needs}
-use Rattle.sheet.specs.Edition.{lp2}
 use Rattle.printer.specs.Escapes.{clear-tabs}
-use Rattle.printer.specs.Machine.{no-tabs}
+use Rattle.printer.specs.Tabs.{no-tabs}
 use Rattle.state.proofs.parts.clear_tabs.Statement.{statement}
 use Rattle.state.proofs.parts.clear_tabs.Tie as tie
 
 returns : tie.Need-returns
-unfolding clear-tabs no-tabs lp2
+unfolding clear-tabs no-tabs
 returns c = search needs
 
 pub clear-tabs-spec : {M : Type 1} → statement M

@@ -1,42 +1,43 @@
+-- `sound::tabs_sound` meets its contract.
 use borrow.Author.Needs.{needs}
+use Prim.Native.Nat.{_/_, _^_, _<_}
+use mathlib.Core.Path.{sym}
 use native.Mathlib.Omega.{arith}
-use Prim.Native.Nat.{_-_, _≤_, _<_}
-use mathlib.Core.Path.{_≡_, refl, sym, _∙_}
-use lib.ListN.{drop, length}
-use Rattle.printer.specs.Sound.{tabs-sound, untabbed}
-use Rattle.printer.proofs.TabTurns.{untabbed-end, untabbed-turn}
+use borrow.Author.Tests.{ne-eqb}
+use Rattle.printer.specs.Sound.{tabs-sound}
+use Rattle.printer.proofs.TabBits.{untabbed-high, untabbed-low, untabbed-past}
 use Rattle.state.proofs.sound.tabs_sound.Statement.{statement}
 use Rattle.state.proofs.sound.tabs_sound.Tie as tie
 
-abbrev Inv-loop : tie.InvT-loop
-Inv-loop p i₀ i = untabbed (drop (p .form .lines) (p .tabs)) ≡ untabbed (drop i (p .tabs))
-
-abbrev μ-loop : tie.MeasureT-loop
-μ-loop p i₀ i = 99 - i
-
-loop-holds : tie.Need-loop-holds Inv-loop μ-loop
+returns : tie.Need-returns
 unfolding tabs-sound
-loop-holds c = refl
+returns c =
+    let p = c .before .before .before .before .before .args .p in
+    let low : p .tabs .low < 2 ^ 64 = search needs in
+    let high : p .tabs .high < 2 ^ 64 = search needs in
+    simp (untabbed-low (p .tabs) (low, high) (p .form .lines) (omega arith), c .before .if2 .taken)
 
-returns : tie.Need-returns Inv-loop μ-loop
+returns-2 : tie.Need-returns-2
 unfolding tabs-sound
-returns c = let a = c .before .before .before .before .args in let l = c .before .before .before .loop in let n : length (a .t1 .tabs) ≡ 99 = search needs in let h : l .i < length (a .t1 .tabs) = omega arith in sym (l .inv ∙ untabbed-turn (l .i) (a .t1 .tabs) h ∙ simp (c .if1 .taken))
+returns-2 c =
+    let p = c .before .before .before .before .args .p in
+    let low : p .tabs .low < 2 ^ 64 = search needs in
+    let high : p .tabs .high < 2 ^ 64 = search needs in
+    simp (untabbed-low (p .tabs) (low, high) (p .form .lines) (omega arith), ne-eqb (p .tabs .low / 2 ^ p .form .lines) 0 (c .if2 .left))
 
-add-i : tie.Need-add-i Inv-loop μ-loop
+returns-3 : tie.Need-returns-3
 unfolding tabs-sound
-add-i c = omega arith
+returns-3 c =
+    let p = c .before .before .before .before .args .p in
+    let low : p .tabs .low < 2 ^ 64 = search needs in
+    let high : p .tabs .high < 2 ^ 64 = search needs in
+    sym (untabbed-high (p .tabs) (low, high) (p .form .lines) (omega arith) (omega arith))
 
-loop-less : tie.Need-loop-less Inv-loop μ-loop
+returns-4 : tie.Need-returns-4
 unfolding tabs-sound
-loop-less c = omega arith
-
-loop-again : tie.Need-loop-again Inv-loop μ-loop
-unfolding tabs-sound
-loop-again c = let a = c .before .before .before .before .args in let l = c .before .before .before .loop in let n : length (a .t1 .tabs) ≡ 99 = search needs in let h : l .i < length (a .t1 .tabs) = omega arith in l .inv ∙ untabbed-turn (l .i) (a .t1 .tabs) h ∙ simp (c .if1 .left)
-
-returns-2 : tie.Need-returns-2 Inv-loop μ-loop
-unfolding tabs-sound
-returns-2 c = let a = c .before .before .args in let l = c .before .loop in let n : length (a .t1 .tabs) ≡ 99 = search needs in let h : length (a .t1 .tabs) ≤ l .i = omega arith in sym (l .inv ∙ untabbed-end (l .i) (a .t1 .tabs) h)
+returns-4 c =
+    let p = c .before .before .before .args .p in
+    sym (untabbed-past (p .tabs) (p .form .lines) (omega arith))
 
 pub tabs-sound-spec : {M : Type 1} → statement M
-tabs-sound-spec = tie.close (tie.spec Inv-loop μ-loop loop-holds (λ c. search needs) returns add-i loop-less loop-again returns-2)
+tabs-sound-spec = tie.close (tie.spec (λ c. search needs) returns returns-2 (λ c. search needs) returns-3 returns-4)
