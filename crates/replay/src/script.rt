@@ -14,7 +14,7 @@ use job::calls::open;
 use printer::Printer;
 use protocol::Answer;
 use protocol::Fed;
-use report::answer_number;
+use protocol::numbers::answer_number;
 use report::say_number;
 use sheet::Form;
 use sheet::sizes::form_rows;
