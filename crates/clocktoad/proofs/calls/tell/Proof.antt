@@ -1,0 +1,14 @@
+-- `calls::tell` meets its contract.
+use borrow.Author.Needs.{needs}
+use mathlib.Core.List.{[], _∷_}
+use Rattle.clocktoad.proofs.Writing.{written-behind}
+use Rattle.clocktoad.proofs.calls.tell.Statement.{statement}
+use Rattle.clocktoad.proofs.calls.tell.Tie as tie
+
+returns : tie.Need-returns
+returns c =
+    let a = c .args in
+    written-behind (a .taken ∷ a .number ∷ a .place ∷ 0 ∷ []) (a .report .now) 0 (c .pre)
+
+pub tell-spec : {M : Type 1} → statement M
+tell-spec = tie.close (tie.spec (λ c. search needs) (λ c. search needs) (λ c. search needs) (λ c. search needs) (λ c. search needs) returns)

@@ -1,0 +1,18 @@
+-- `words::pitch_word` meets its contract.
+use borrow.Author.Needs.{needs}
+use mathlib.Core.Path.{sym, ap}
+use Rattle.sheet.specs.declared.Pitch.{Pitch}
+use Rattle.clocktoad.specs.Words.{pitch-word}
+use Rattle.clocktoad.proofs.words.pitch_word.Statement.{statement}
+use Rattle.clocktoad.proofs.words.pitch_word.Tie as tie
+
+returns : tie.Need-returns
+unfolding pitch-word
+returns c = sym (ap (λ (x : Pitch). pitch-word x) (c .enum-told .given .1))
+
+returns-2 : tie.Need-returns-2
+unfolding pitch-word
+returns-2 c = sym (ap (λ (x : Pitch). pitch-word x) (c .enum-told2 .given .1))
+
+pub pitch-word-spec : {M : Type 1} → statement M
+pitch-word-spec = tie.close (tie.spec (λ c. search needs) (λ c. search needs) returns returns-2)

@@ -1,0 +1,102 @@
+-- `words::put_pending` meets its contract.
+use borrow.Author.Needs.{needs}
+use mathlib.Core.List.{_++_}
+use mathlib.Core.Path.{ap, sym, _∙_}
+use lib.ListN.{take}
+use Rattle.printer.specs.declared.Pending.{Pending}
+use Rattle.clocktoad.specs.Words.{pending-words}
+use Rattle.clocktoad.proofs.words.put_pending.Statement.{statement}
+use Rattle.clocktoad.proofs.words.put_pending.Tie as tie
+
+returns : tie.Need-returns
+unfolding pending-words
+returns c = c .before .before .six .ensures ∙ sym (ap (λ (q : Pending). take 14 (c .before .before .before .before .before .before .before .args .state .now) ++ pending-words q) (c .before .before .before .before .enum-told .given .1))
+
+returns-2 : tie.Need-returns-2
+unfolding pending-words
+returns-2 c = c .before .before .six2 .ensures ∙ sym (ap (λ (q : Pending). take 14 (c .before .before .before .before .before .before .before .before .args .state .now) ++ pending-words q) (c .before .before .before .before .before .pending .given .1))
+
+returns-3 : tie.Need-returns-3
+unfolding pending-words
+returns-3 c = c .before .before .six3 .ensures ∙ sym (ap (λ (q : Pending). take 14 (c .before .before .before .before .before .before .before .before .args .state .now) ++ pending-words q) (c .before .before .before .before .before .pending2 .given .1))
+
+returns-4 : tie.Need-returns-4
+unfolding pending-words
+returns-4 c = c .before .before .six4 .ensures ∙ sym (ap (λ (q : Pending). take 14 (c .before .before .before .before .before .before .before .before .args .state .now) ++ pending-words q) (c .before .before .before .before .before .pending3 .given .1))
+
+returns-5 : tie.Need-returns-5
+unfolding pending-words
+returns-5 c = c .before .before .six5 .ensures ∙ sym (ap (λ (q : Pending). take 14 (c .before .before .before .before .before .before .before .before .args .state .now) ++ pending-words q) (c .before .before .before .before .before .pending4 .given .1))
+
+returns-6 : tie.Need-returns-6
+unfolding pending-words
+returns-6 c = c .before .before .six6 .ensures ∙ sym (ap (λ (q : Pending). take 14 (c .before .before .before .before .before .before .before .before .args .state .now) ++ pending-words q) (c .before .before .before .before .before .pending5 .given .1))
+
+returns-7 : tie.Need-returns-7
+unfolding pending-words
+returns-7 c = c .before .before .six7 .ensures ∙ sym (ap (λ (q : Pending). take 14 (c .before .before .before .before .before .before .before .before .args .state .now) ++ pending-words q) (c .before .before .before .before .before .pending6 .given .1))
+
+returns-8 : tie.Need-returns-8
+unfolding pending-words
+returns-8 c = c .before .before .six8 .ensures ∙ sym (ap (λ (q : Pending). take 14 (c .before .before .before .before .before .before .before .before .args .state .now) ++ pending-words q) (c .before .before .before .before .before .pending7 .given .1))
+
+returns-9 : tie.Need-returns-9
+unfolding pending-words
+returns-9 c = c .before .before .six9 .ensures ∙ sym (ap (λ (q : Pending). take 14 (c .before .before .before .before .before .before .before .before .args .state .now) ++ pending-words q) (c .before .before .before .before .before .pending8 .given .1))
+
+returns-10 : tie.Need-returns-10
+unfolding pending-words
+returns-10 c = c .before .before .six10 .ensures ∙ sym (ap (λ (q : Pending). take 14 (c .before .before .before .before .before .before .before .before .args .state .now) ++ pending-words q) (c .before .before .before .before .before .pending9 .given .1))
+
+returns-11 : tie.Need-returns-11
+unfolding pending-words
+returns-11 c = c .before .before .six11 .ensures ∙ sym (ap (λ (q : Pending). take 14 (c .before .before .before .before .before .before .before .before .args .state .now) ++ pending-words q) (c .before .before .before .before .before .pending10 .given .1))
+
+pub put-pending-spec : {M : Type 1} → statement M
+put-pending-spec =
+    tie.close
+    (tie.spec
+    (λ c. search needs)
+    (λ c κs. search needs)
+    (λ c. search needs)
+    (λ c κs. search needs)
+    (λ c. search needs)
+    (λ c κs. search needs)
+    (λ c. search needs)
+    (λ c κs. search needs)
+    (λ c. search needs)
+    (λ c κs. search needs)
+    (λ c. search needs)
+    (λ c κs. search needs)
+    (λ c. search needs)
+    (λ c κs. search needs)
+    (λ c. search needs)
+    (λ c κs. search needs)
+    (λ c. search needs)
+    (λ c κs. search needs)
+    (λ c. search needs)
+    (λ c κs. search needs)
+    (λ c. search needs)
+    (λ c κs. search needs)
+    (λ c. search needs)
+    returns
+    (λ c. search needs)
+    returns-2
+    (λ c. search needs)
+    returns-3
+    (λ c. search needs)
+    returns-4
+    (λ c. search needs)
+    returns-5
+    (λ c. search needs)
+    returns-6
+    (λ c. search needs)
+    returns-7
+    (λ c. search needs)
+    returns-8
+    (λ c. search needs)
+    returns-9
+    (λ c. search needs)
+    returns-10
+    (λ c. search needs)
+    returns-11)

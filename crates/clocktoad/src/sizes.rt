@@ -1,0 +1,65 @@
+// The sizes of what a caller lends.
+ghost use mathlib.Core.Path.{_≡_};
+ghost use Rattle.sheet.specs.Edition.{lp2};
+ghost use Rattle.clocktoad.specs.Calls.{page-size};
+use sheet::Form;
+use sheet::sizes::lines_allowed;
+use sheet::sizes::page_bytes;
+use sheet::sizes::spacing_allowed;
+
+#[no_mangle]
+pub extern "C" fn clocktoad_state_words() -> usize
+    ensures { λ r. ⌜ r ≡ 20 ⌝ }
+{
+    20
+}
+
+#[no_mangle]
+pub extern "C" fn clocktoad_report_words() -> usize
+    ensures { λ r. ⌜ r ≡ 4 ⌝ }
+{
+    4
+}
+
+// The bytes of a page, 0 where there is no such form.
+#[no_mangle]
+pub extern "C" fn clocktoad_page_bytes(lines: usize, spacing: usize) -> usize
+    ensures { λ r. ⌜ r ≡ page-size lines spacing ⌝ }
+{
+    if !lines_allowed(lines) {
+        return 0;
+    }
+    if !spacing_allowed(spacing) {
+        return 0;
+    }
+    let form = Form { lines, spacing };
+    page_bytes(form)
+}
+
+#[no_mangle]
+pub extern "C" fn clocktoad_line_numbers() -> usize
+    ensures { λ r. ⌜ r ≡ lp2 .columns ⌝ }
+{
+    2200
+}
+
+#[no_mangle]
+pub extern "C" fn clocktoad_staging_bytes() -> usize
+    ensures { λ r. ⌜ r ≡ 2048 ⌝ }
+{
+    2048
+}
+
+#[no_mangle]
+pub extern "C" fn clocktoad_store_bytes() -> usize
+    ensures { λ r. ⌜ r ≡ 2048 ⌝ }
+{
+    2048
+}
+
+#[no_mangle]
+pub extern "C" fn clocktoad_font_bytes() -> usize
+    ensures { λ r. ⌜ r ≡ 2048 ⌝ }
+{
+    2048
+}

@@ -1,0 +1,142 @@
+/*
+ * clocktoad: a reader of the bytes that a host sends to a DASHER LP2 printer.
+ *
+ * It follows document 01, base edition: no request of document 02 is in it.
+ * docs/CALLING.md shows the protocol and a whole program.
+ *
+ * The library keeps no memory of its own: all it reads or writes is lent by the
+ * caller, each slice as a pointer and a count of elements. For every call:
+ *   - no pointer is null, not even that of a slice of no elements;
+ *   - every slice is readable, and writable unless const, for its whole length;
+ *   - no two slices overlap.
+ */
+#ifndef CLOCKTOAD_H
+#define CLOCKTOAD_H
+
+#include <stddef.h>
+#include <stdint.h>
+
+#ifdef __cplusplus
+extern "C" {
+#endif
+
+/* Lengths of the lent slices, in elements. */
+#define CLOCKTOAD_STATE_WORDS   20   /* uint64_t */
+#define CLOCKTOAD_REPORT_WORDS  4    /* uint64_t */
+#define CLOCKTOAD_LINE_NUMBERS  2200 /* uint16_t */
+#define CLOCKTOAD_STAGING_BYTES 2048
+#define CLOCKTOAD_STORE_BYTES   2048
+#define CLOCKTOAD_FONT_BYTES    2048
+
+/* The form. A row is read from left to right, the leftmost position in a byte's highest bit. */
+#define CLOCKTOAD_ROW_POSITIONS 6600
+#define CLOCKTOAD_ROW_BYTES     825
+#define CLOCKTOAD_LINES_MAX     99
+#define CLOCKTOAD_LINE_ROWS(spacing) ((spacing) == 6 ? 12 : 9)
+/* For lines 1 to 99 at spacing 6 or 8 only; clocktoad_page_bytes takes any numbers. */
+#define CLOCKTOAD_PAGE_BYTES(lines, spacing) \
+    ((size_t)(lines) * CLOCKTOAD_LINE_ROWS(spacing) * CLOCKTOAD_ROW_BYTES)
+#define CLOCKTOAD_PAGE_BYTES_MAX CLOCKTOAD_PAGE_BYTES(CLOCKTOAD_LINES_MAX, 6)
+
+/* The most bytes that one job can have. */
+#define CLOCKTOAD_JOB_LIMIT UINT64_C(4294967295)
+
+/* Answers of opening and feeding. Closing uses CLOCKTOAD_UNSOUND and the two house numbers too. */
+enum clocktoad_answer {
+    CLOCKTOAD_OPENED         = 0,  /* opening: the job is open */
+    CLOCKTOAD_USED_UP        = 0,  /* feeding: every byte of the piece is taken */
+    CLOCKTOAD_FORM_FINISHED  = 1,  /* the page is complete; lend a blank one, offer the rest */
+    CLOCKTOAD_NOTE           = 2,  /* the report has the note's number and place; offer the rest */
+    CLOCKTOAD_JOB_FULL       = 3,  /* the job has CLOCKTOAD_JOB_LIMIT bytes; the rest can't be taken */
+    CLOCKTOAD_UNSOUND        = 10, /* the words lent as state hold no sound state */
+    CLOCKTOAD_BAD_PAGE       = 11, /* wrong length of the page, */
+    CLOCKTOAD_BAD_LINE       = 12, /* of the line store, */
+    CLOCKTOAD_BAD_STAGING    = 13, /* of the staging, */
+    CLOCKTOAD_BAD_STORE      = 14, /* of the download store, */
+    CLOCKTOAD_BAD_FONT       = 15, /* of the font */
+    CLOCKTOAD_PAST_FORM      = 17, /* a guard: a line would be struck past the form's end */
+    CLOCKTOAD_BAD_LINES      = 18, /* opening: lines not 1 to 99 */
+    CLOCKTOAD_BAD_SPACING    = 19, /* opening: spacing not 6 or 8 */
+    CLOCKTOAD_STATE_LENGTH   = 21, /* house: state_len is not CLOCKTOAD_STATE_WORDS */
+    CLOCKTOAD_REPORT_LENGTH  = 22  /* house: report_len is not CLOCKTOAD_REPORT_WORDS */
+};
+
+/* Answers of closing, with CLOCKTOAD_UNSOUND and the two house numbers. */
+enum clocktoad_closing {
+    CLOCKTOAD_CLEAN              = 0, /* nothing is left over */
+    CLOCKTOAD_LINE_UNPRINTED     = 1, /* the last line had no terminator */
+    CLOCKTOAD_COMMAND_UNFINISHED = 2  /* the report has the place of the command's first byte */
+};
+
+/* Note numbers. Document 01 gives no note 43 or 47. */
+enum clocktoad_note {
+    CLOCKTOAD_NOTE_UNKNOWN_COMMAND = 42, /* ESC and a byte that names no command */
+    CLOCKTOAD_NOTE_LINE_FULL       = 44, /* a character or plot column that the line has no room for */
+    CLOCKTOAD_NOTE_CHECKSUM        = 45, /* a download whose payload and checksum don't sum to 0 */
+    CLOCKTOAD_NOTE_INVALID         = 46, /* a byte, command, operand or download header not allowed there */
+    CLOCKTOAD_NOTE_TAB_ITEM        = 48, /* an item of a tab list that is no line of the form */
+    CLOCKTOAD_NOTE_GLYPH           = 80  /* house: a download with an ill-formed glyph */
+};
+
+/* Words of the report. */
+enum clocktoad_report {
+    CLOCKTOAD_REPORT_TAKEN  = 0, /* feeding: bytes taken of the piece */
+    CLOCKTOAD_REPORT_NUMBER = 1, /* feeding: the note's number, 0 unless the answer is CLOCKTOAD_NOTE */
+    CLOCKTOAD_REPORT_PLACE  = 2, /* the note's or the unfinished command's place in the job, else 0 */
+    CLOCKTOAD_REPORT_ZERO   = 3  /* always 0 */
+};
+
+/*
+ * Opens a job on a form of `lines` lines (1 to 99) at `spacing` lines an inch (6 or 8).
+ * Tested in this order: 21, 18, 19, 11 to 15; else 0.
+ * On 0 the page, line store, staging and download store are zeroed and the state is that of a
+ * job of no bytes. On 18, 19 and 11 to 15 the state becomes the shut state, which feeding and
+ * closing answer with 10, and nothing else is written. On 21 nothing is written.
+ * The font is never written; it may change between calls.
+ */
+uint64_t clocktoad_open(uint64_t lines, uint64_t spacing,
+                        uint64_t *state, size_t state_len,
+                        uint8_t *page, size_t page_len,
+                        uint16_t *line, size_t line_len,
+                        uint8_t *staging, size_t staging_len,
+                        uint8_t *store, size_t store_len,
+                        const uint8_t *font, size_t font_len);
+
+/*
+ * Reads the next bytes of the job, up to the first form finished, the first note, or the end of
+ * the piece. The caller offers the bytes from report[0] on again, before any others.
+ * Tested in this order: 21, 22, 10, 11 to 15; none of these writes anything.
+ * Else 0, 1, 2, 3 or 17, and the report is written. A finished page is not cleared.
+ * The slices must hold what the call before left in them, but for the page after answer 1.
+ */
+uint64_t clocktoad_feed(uint64_t *state, size_t state_len,
+                        uint8_t *page, size_t page_len,
+                        uint16_t *line, size_t line_len,
+                        uint8_t *staging, size_t staging_len,
+                        uint8_t *store, size_t store_len,
+                        const uint8_t *font, size_t font_len,
+                        const uint8_t *piece, size_t piece_len,
+                        uint64_t *report, size_t report_len);
+
+/*
+ * Tells how the job would end here: an enum clocktoad_closing, and the report is written.
+ * Tested in this order: 21, 22, 10; none of these writes anything. The state is only read.
+ */
+uint64_t clocktoad_close(const uint64_t *state, size_t state_len,
+                         uint64_t *report, size_t report_len);
+
+uint64_t clocktoad_state_words(void);   /* CLOCKTOAD_STATE_WORDS */
+uint64_t clocktoad_report_words(void);  /* CLOCKTOAD_REPORT_WORDS */
+uint64_t clocktoad_line_numbers(void);  /* CLOCKTOAD_LINE_NUMBERS */
+uint64_t clocktoad_staging_bytes(void); /* CLOCKTOAD_STAGING_BYTES */
+uint64_t clocktoad_store_bytes(void);   /* CLOCKTOAD_STORE_BYTES */
+uint64_t clocktoad_font_bytes(void);    /* CLOCKTOAD_FONT_BYTES */
+
+/* Bytes of a page of that form; 0 where lines is not 1 to 99 or spacing is not 6 or 8. */
+uint64_t clocktoad_page_bytes(uint64_t lines, uint64_t spacing);
+
+#ifdef __cplusplus
+}
+#endif
+
+#endif
