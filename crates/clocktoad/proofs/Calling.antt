@@ -1,8 +1,9 @@
 -- What each way through a call comes to.
-use Prim.Native.Nat.{ℕ}
-use mathlib.Core.Bool.{true, false}
+use Prim.Native.Nat.{ℕ, _≤_}
+use mathlib.Core.Bool.{true, false, true≢false}
 use mathlib.Core.List.{List, [], _∷_}
-use mathlib.Core.Path.{_≡_}
+use mathlib.Core.Path.{_≡_, sym}
+use native.Mathlib.Omega.{arith}
 use borrow.Author.Tests.{eq-eqb, ne-eqb}
 use lib.ListN.{length}
 use Rattle.sheet.specs.Edition.{lp2}
@@ -10,7 +11,10 @@ use Rattle.printer.specs.declared.Closing.{Closing}
 use Rattle.printer.specs.Closing.{closing}
 use Rattle.printer.specs.Given.{machine}
 use Rattle.printer.specs.Machine.{shut}
-use Rattle.protocol.specs.Answers.{close-place, close-report, refusal, report}
+use Rattle.protocol.specs.declared.Answer.{Answer}
+use Rattle.protocol.specs.declared.Answer.the-variants.{Done, Finished, Noted, JobFull, Unsound, Misfit, Guarded, WrongLines, WrongSpacing}
+use Rattle.protocol.specs.declared.Lent.the-variants.{Page, LineStore, Staging, DownloadStore, Font}
+use Rattle.protocol.specs.Answers.{close-place, close-report, lent-number, refusal, report}
 use Rattle.protocol.specs.Calls.{Feeding, feeding, opening}
 use Rattle.clocktoad.specs.Calls.{Called, Closed, called, close-call, closing-words, feed-call, feeding-report, feeding-words, open-call, opening-words}
 use Rattle.clocktoad.specs.Words.{is-state, state-of, state-words}
@@ -48,6 +52,23 @@ module _ (font piece state page line staging store told : List ℕ) where
       pub feeds : is-state state ≡ true → feeding-words (feeding lp2 font piece (machine (state-of state) page line staging store)) state told ≡ at-feed
       unfolding feed-call
       feeds q = simp (eq-eqb (length state) 20 l, eq-eqb (length told) 4 k, q)
+
+-- a refusal has a number of its own
+pub refusal-numbers : (a : Answer) → refusal a ≡ true → 10 ≤ report a .number
+unfolding refusal report lent-number
+refusal-numbers Done q = absurd (true≢false (sym q))
+refusal-numbers Finished q = absurd (true≢false (sym q))
+refusal-numbers (Noted f place) q = absurd (true≢false (sym q))
+refusal-numbers JobFull q = absurd (true≢false (sym q))
+refusal-numbers Unsound q = omega arith
+refusal-numbers (Misfit Page) q = omega arith
+refusal-numbers (Misfit LineStore) q = omega arith
+refusal-numbers (Misfit Staging) q = omega arith
+refusal-numbers (Misfit DownloadStore) q = omega arith
+refusal-numbers (Misfit Font) q = omega arith
+refusal-numbers Guarded q = absurd (true≢false (sym q))
+refusal-numbers WrongLines q = omega arith
+refusal-numbers WrongSpacing q = omega arith
 
 -- a refused feeding, and one that is not
 pub fed-refused : (f : Feeding) (state told : List ℕ) → refusal (f .answer) ≡ true

@@ -1,6 +1,6 @@
 -- The twenty words in which a caller keeps a state: lines, spacing, job, row, column; fresh, plotted, plotting, compressed, elongated, underscore,
 -- downloaded, each 0 or 1; the two words of the tabs; then what is pending.
-use Prim.Native.Nat.{ℕ}
+use Prim.Native.Nat.{ℕ, _≤_}
 use mathlib.Core.Bool.{Bool, true, cond, _&&_}
 use mathlib.Core.List.{List, [], _∷_}
 use lib.Dec.{eqb, leb}
@@ -104,3 +104,17 @@ state-of ws =
       style = record { pitch = pitch-of (w 8); elongated = eqb (w 9) 1; underscore = eqb (w 10) 1; downloaded = eqb (w 11) 1 };
       tabs = record { low = w 12; high = w 13 };
     }
+
+-- what is pending is in range, as in every state that code can hold
+abbrev pub Ranged : Pending → Type 0
+Ranged Nothing = Unit {0}
+Ranged (Escape place) = place ≤ 4294967295
+Ranged (Tabs place) = place ≤ 4294967295
+Ranged (Reset place) = place ≤ 4294967295
+Ranged (Select place) = place ≤ 4294967295
+Ranged (SelectLow place high) = (place ≤ 4294967295) × (high ≤ 255)
+Ranged (CountHigh place) = place ≤ 4294967295
+Ranged (CountLow place high) = (place ≤ 4294967295) × (high ≤ 255)
+Ranged (AddressHigh place count) = (place ≤ 4294967295) × (count ≤ 65535)
+Ranged (AddressLow place count high) = (place ≤ 4294967295) × (count ≤ 65535) × (high ≤ 255)
+Ranged (Payload place l) = (place ≤ 4294967295) × (l .sum ≤ 255) × (l .count ≤ 65535) × (l .address ≤ 65535) × (l .taken ≤ 65535)

@@ -3,7 +3,9 @@ ghost use mathlib.Core.Path.{_≡_};
 ghost use mathlib.Core.Bool.{true};
 ghost use mathlib.Core.List.{[], _∷_};
 ghost use lib.ListN.{length};
+ghost use Prim.Native.Nat.{_≤_};
 ghost use Rattle.clocktoad.specs.Calls.{Closed, called, close-call, feed-call, open-call};
+ghost use Rattle.clocktoad.specs.Words.{is-state};
 use crate::words::is_state;
 use crate::words::put;
 use crate::words::state_of;
@@ -42,6 +44,7 @@ pub extern "C" fn clocktoad_open(
 ) -> u64
     ensures { λ r. ⌜ called r (now (state .exit)) (now (page .exit)) (now (line .exit)) (now (staging .exit)) (now (store .exit)) []
         ≡ open-call lines spacing (now (font .entry)) (now (state .entry)) (now (page .entry)) (now (line .entry)) (now (staging .entry)) (now (store .entry)) ⌝ }
+    ensures { λ r. ⌜ ((r ≡ 21 → ⊥) → is-state (now (state .exit)) ≡ true) ⌝ }
 {
     if state.len() != 20 {
         return 21;
@@ -67,6 +70,7 @@ pub extern "C" fn clocktoad_feed(
 ) -> u64
     ensures { λ r. ⌜ called r (now (state .exit)) (now (page .exit)) (now (line .exit)) (now (staging .exit)) (now (store .exit)) (now (report .exit))
         ≡ feed-call (now (font .entry)) (now (piece .entry)) (now (state .entry)) (now (page .entry)) (now (line .entry)) (now (staging .entry)) (now (store .entry)) (now (report .entry)) ⌝ }
+    ensures { λ r. ⌜ (r ≤ 3 → is-state (now (state .exit)) ≡ true) ⌝ }
 {
     if state.len() != 20 {
         return 21;

@@ -5,7 +5,7 @@ ghost use mathlib.Core.List.{[], _∷_, _++_};
 ghost use Prim.Native.Nat.{_+_, _≤_};
 ghost use lib.Dec.{eqb};
 ghost use lib.ListN.{length, take};
-ghost use Rattle.clocktoad.specs.Words.{at-most, is-state, part, pending-of, pending-words, pitch-of, pitch-word, state-of, state-words, truth};
+ghost use Rattle.clocktoad.specs.Words.{Ranged, at-most, is-state, part, pending-of, pending-words, pitch-of, pitch-word, state-of, state-words, truth};
 use printer::Head;
 use printer::Load;
 use printer::Pending;
@@ -35,6 +35,7 @@ fn pitch_word(pitch: Pitch) -> u64
 fn six(state: &mut [u64], kind: u64, place: u32, byte: u8, count: u16, address: u16, taken: u16)
     requires { ⌜ length (now state) ≡ 20 ⌝ }
     ensures { λ _. ⌜ now (state .exit) ≡ take 14 (now (state .entry)) ++ (kind ∷ place ∷ byte ∷ count ∷ address ∷ taken ∷ []) ⌝ }
+    ensures { λ _. ⌜ (place ≤ 4294967295) × (byte ≤ 255) × (count ≤ 65535) × (address ≤ 65535) × (taken ≤ 65535) ⌝ }
 {
     state[14] = kind;
     state[15] = place as u64;
@@ -47,6 +48,7 @@ fn six(state: &mut [u64], kind: u64, place: u32, byte: u8, count: u16, address: 
 fn put_pending(state: &mut [u64], pending: Pending)
     requires { ⌜ length (now state) ≡ 20 ⌝ }
     ensures { λ _. ⌜ now (state .exit) ≡ take 14 (now (state .entry)) ++ pending-words pending ⌝ }
+    ensures { λ _. ⌜ Ranged pending ⌝ }
 {
     match pending {
         Pending::Nothing => six(state, 0, 0, 0, 0, 0, 0),
@@ -73,10 +75,11 @@ fn put_pending(state: &mut [u64], pending: Pending)
     }
 }
 
-// Puts a state into words.
+// Puts a state into words, which are then a state.
 pub fn put(state: &mut [u64], p: Printer)
     requires { ⌜ length (now state) ≡ 20 ⌝ }
     ensures { λ _. ⌜ now (state .exit) ≡ state-words p ⌝ }
+    ensures { λ _. ⌜ is-state (now (state .exit)) ≡ true ⌝ }
 {
     let form = p.form;
     let head = p.head;

@@ -3,6 +3,7 @@ use borrow.Author.Needs.{needs}
 use Prim.Native.Nat.{ℕ}
 use mathlib.Core.Bool.{true, false}
 use mathlib.Core.Path.{_≡_, ap, sym, _∙_}
+use native.Mathlib.Omega.{arith}
 use borrow.Author.Tests.{not-false, not-true}
 use Rattle.sheet.specs.Edition.{lp2}
 use Rattle.printer.specs.declared.Printer.{Printer}
@@ -11,18 +12,18 @@ use Rattle.protocol.specs.Answers.{refusal}
 use Rattle.protocol.specs.Calls.{Feeding, feeding}
 use Rattle.clocktoad.specs.Calls.{feeding-report, feeding-words}
 use Rattle.clocktoad.specs.Words.{is-state}
-use Rattle.clocktoad.proofs.Calling.{fed-on, fed-refused, feed-10, feed-21, feed-22, feeds}
+use Rattle.clocktoad.proofs.Calling.{fed-on, fed-refused, feed-10, feed-21, feed-22, feeds, refusal-numbers}
 use Rattle.clocktoad.proofs.calls.clocktoad_feed.Statement.{statement}
 use Rattle.clocktoad.proofs.calls.clocktoad_feed.Tie as tie
 
 returns : tie.Need-returns
-returns c = let a = c .before .before .before .before .before .before .before .before .before .args in feed-21 (a .font .now) (a .piece .now) (a .state .now) (a .page .now) (a .line .now) (a .staging .now) (a .store .now) (a .report .now) (c .if1 .taken)
+returns c = let a = c .before .before .before .before .before .before .before .before .before .args in (feed-21 (a .font .now) (a .piece .now) (a .state .now) (a .page .now) (a .line .now) (a .staging .now) (a .store .now) (a .report .now) (c .if1 .taken), λ l. absurd (omega arith))
 
 returns-2 : tie.Need-returns-2
-returns-2 c = let a = c .before .before .before .before .before .before .before .before .before .before .args in feed-22 (a .font .now) (a .piece .now) (a .state .now) (a .page .now) (a .line .now) (a .staging .now) (a .store .now) (a .report .now) (c .before .if1 .left) (c .if2 .taken)
+returns-2 c = let a = c .before .before .before .before .before .before .before .before .before .before .args in (feed-22 (a .font .now) (a .piece .now) (a .state .now) (a .page .now) (a .line .now) (a .staging .now) (a .store .now) (a .report .now) (c .before .if1 .left) (c .if2 .taken), λ l. absurd (omega arith))
 
 returns-3 : tie.Need-returns-3
-returns-3 c = let a = c .before .before .before .before .before .before .before .before .before .before .before .before .before .args in feed-10 (a .font .now) (a .piece .now) (a .state .now) (a .page .now) (a .line .now) (a .staging .now) (a .store .now) (a .report .now) (c .before .before .before .before .if1 .left) (c .before .before .before .if2 .left) (sym (c .before .is-state .ensures) ∙ not-true (c .before .is-state .result) (c .if3 .taken))
+returns-3 c = let a = c .before .before .before .before .before .before .before .before .before .before .before .before .before .args in (feed-10 (a .font .now) (a .piece .now) (a .state .now) (a .page .now) (a .line .now) (a .staging .now) (a .store .now) (a .report .now) (c .before .before .before .before .if1 .left) (c .before .before .before .if2 .left) (sym (c .before .is-state .ensures) ∙ not-true (c .before .is-state .result) (c .if3 .taken)), λ l. absurd (omega arith))
 
 state-of-requires : tie.Need-state-of-requires
 state-of-requires c κs = (c .before .before .before .before .before .if1 .left, sym (c .before .before .is-state .ensures) ∙ not-false (c .before .before .is-state .result) (c .before .if3 .left))
@@ -32,10 +33,13 @@ returns-4 c =
     let a = c .before .before .before .before .before .before .before .before .before .before .before .before .before .before .before .before .before .before .before .before .before .before .before .before .before .before .before .before .before .before .before .before .args in
     let q : is-state (a .state .now) ≡ true = sym (c .before .before .before .before .before .before .before .before .before .before .before .before .before .before .before .before .before .before .before .before .is-state .ensures) ∙ not-false (c .before .before .before .before .before .before .before .before .before .before .before .before .before .before .before .before .before .before .before .before .is-state .result) (c .before .before .before .before .before .before .before .before .before .before .before .before .before .before .before .before .before .before .before .if3 .left) in
     let f = c .before .before .before .before .before .before .before .before .before .before .before .before .feed .ensures ∙ ap (λ (p : Printer). feeding lp2 (a .font .now) (a .piece .now) (machine p (a .page .now) (a .line .now) (a .staging .now) (a .store .now))) (c .before .before .before .before .before .before .before .before .before .before .before .before .before .before .before .before .before .state-of .ensures) in
-    simp (c .answer-number .ensures)
-    (fed-refused _ (a .state .now) (a .report .now) (sym (c .before .before .refusal .ensures) ∙ c .before .if4 .taken)
-    ∙ ap (λ (x : Feeding). feeding-words x (a .state .now) (a .report .now)) f
-    ∙ feeds (a .font .now) (a .piece .now) (a .state .now) (a .page .now) (a .line .now) (a .staging .now) (a .store .now) (a .report .now) (c .before .before .before .before .before .before .before .before .before .before .before .before .before .before .before .before .before .before .before .before .before .before .before .if1 .left) (c .before .before .before .before .before .before .before .before .before .before .before .before .before .before .before .before .before .before .before .before .before .before .if2 .left) q)
+    let no : refusal (c .before .before .before .before .before .before .before .before .before .before .before .before .feed .result .answer) ≡ true = sym (c .before .before .refusal .ensures) ∙ c .before .if4 .taken in (
+      simp (c .answer-number .ensures)
+          (fed-refused _ (a .state .now) (a .report .now) (sym (c .before .before .refusal .ensures) ∙ c .before .if4 .taken)
+          ∙ ap (λ (x : Feeding). feeding-words x (a .state .now) (a .report .now)) f
+          ∙ feeds (a .font .now) (a .piece .now) (a .state .now) (a .page .now) (a .line .now) (a .staging .now) (a .store .now) (a .report .now) (c .before .before .before .before .before .before .before .before .before .before .before .before .before .before .before .before .before .before .before .before .before .before .before .if1 .left) (c .before .before .before .before .before .before .before .before .before .before .before .before .before .before .before .before .before .before .before .before .before .before .if2 .left) q),
+      λ l. absurd (omega (arith, refusal-numbers _ no, c .answer-number .ensures)),
+    )
 
 put-requires : tie.Need-put-requires
 put-requires c κs = c .before .before .before .before .before .before .before .before .before .before .before .before .before .before .before .before .before .before .before .before .before .before .before .if1 .left
@@ -48,11 +52,13 @@ unfolding feeding-report
 returns-5 c =
     let a = c .before .before .before .before .before .before .before .before .before .before .before .before .before .before .before .before .before .before .before .before .before .before .before .before .before .before .before .before .before .before .before .before .before .before .before .before .before .before .before .before .before .before .args in
     let q : is-state (a .state .now) ≡ true = sym (c .before .before .before .before .before .before .before .before .before .before .before .before .before .before .before .before .before .before .before .before .before .before .before .before .before .before .before .before .before .before .is-state .ensures) ∙ not-false (c .before .before .before .before .before .before .before .before .before .before .before .before .before .before .before .before .before .before .before .before .before .before .before .before .before .before .before .before .before .before .is-state .result) (c .before .before .before .before .before .before .before .before .before .before .before .before .before .before .before .before .before .before .before .before .before .before .before .before .before .before .before .before .before .if3 .left) in
-    let f = c .before .before .before .before .before .before .before .before .before .before .before .before .before .before .before .before .before .before .before .before .before .before .feed .ensures ∙ ap (λ (p : Printer). feeding lp2 (a .font .now) (a .piece .now) (machine p (a .page .now) (a .line .now) (a .staging .now) (a .store .now))) (c .before .before .before .before .before .before .before .before .before .before .before .before .before .before .before .before .before .before .before .before .before .before .before .before .before .before .before .state-of .ensures) in
-    simp (c .answer-number2 .ensures, c .before .before .before .before .before .before .before .before .before .put .ensures, c .before .before .before .tell .ensures, c .before .before .before .before .before .noted-number .ensures, c .before .before .before .before .noted-place .ensures)
-    (fed-on _ (a .state .now) (a .report .now) (sym (c .before .before .before .before .before .before .before .before .before .before .before .before .refusal .ensures) ∙ c .before .before .before .before .before .before .before .before .before .before .before .if4 .left)
-    ∙ ap (λ (x : Feeding). feeding-words x (a .state .now) (a .report .now)) f
-    ∙ feeds (a .font .now) (a .piece .now) (a .state .now) (a .page .now) (a .line .now) (a .staging .now) (a .store .now) (a .report .now) (c .before .before .before .before .before .before .before .before .before .before .before .before .before .before .before .before .before .before .before .before .before .before .before .before .before .before .before .before .before .before .before .before .before .if1 .left) (c .before .before .before .before .before .before .before .before .before .before .before .before .before .before .before .before .before .before .before .before .before .before .before .before .before .before .before .before .before .before .before .before .if2 .left) q)
+    let f = c .before .before .before .before .before .before .before .before .before .before .before .before .before .before .before .before .before .before .before .before .before .before .feed .ensures ∙ ap (λ (p : Printer). feeding lp2 (a .font .now) (a .piece .now) (machine p (a .page .now) (a .line .now) (a .staging .now) (a .store .now))) (c .before .before .before .before .before .before .before .before .before .before .before .before .before .before .before .before .before .before .before .before .before .before .before .before .before .before .before .state-of .ensures) in (
+      simp (c .answer-number2 .ensures, c .before .before .before .before .before .before .before .before .before .put .ensures .0, c .before .before .before .tell .ensures, c .before .before .before .before .before .noted-number .ensures, c .before .before .before .before .noted-place .ensures)
+          (fed-on _ (a .state .now) (a .report .now) (sym (c .before .before .before .before .before .before .before .before .before .before .before .before .refusal .ensures) ∙ c .before .before .before .before .before .before .before .before .before .before .before .if4 .left)
+          ∙ ap (λ (x : Feeding). feeding-words x (a .state .now) (a .report .now)) f
+          ∙ feeds (a .font .now) (a .piece .now) (a .state .now) (a .page .now) (a .line .now) (a .staging .now) (a .store .now) (a .report .now) (c .before .before .before .before .before .before .before .before .before .before .before .before .before .before .before .before .before .before .before .before .before .before .before .before .before .before .before .before .before .before .before .before .before .if1 .left) (c .before .before .before .before .before .before .before .before .before .before .before .before .before .before .before .before .before .before .before .before .before .before .before .before .before .before .before .before .before .before .before .before .if2 .left) q),
+      λ l. c .before .before .before .before .before .before .before .before .before .put .ensures .1,
+    )
 
 pub clocktoad-feed-spec : {M : Type 1} → statement M
 clocktoad-feed-spec =

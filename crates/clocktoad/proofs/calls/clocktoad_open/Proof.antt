@@ -1,6 +1,6 @@
 -- `calls::clocktoad_open` meets its contract.
 use borrow.Author.Needs.{needs}
-use mathlib.Core.Path.{_≡_, ap, _∙_}
+use mathlib.Core.Path.{_≡_, refl, ap, _∙_}
 use Rattle.sheet.specs.Edition.{lp2}
 use Rattle.printer.specs.Machine.{shut}
 use Rattle.clocktoad.specs.Calls.{opening-words}
@@ -9,14 +9,16 @@ use Rattle.clocktoad.proofs.calls.clocktoad_open.Statement.{statement}
 use Rattle.clocktoad.proofs.calls.clocktoad_open.Tie as tie
 
 returns : tie.Need-returns
-returns c = let a = c .before .before .before .before .before .before .before .args in open-21 (a .lines) (a .spacing) (a .font .now) (a .state .now) (a .page .now) (a .line .now) (a .staging .now) (a .store .now) (c .if1 .taken)
+returns c = let a = c .before .before .before .before .before .before .before .args in (open-21 (a .lines) (a .spacing) (a .font .now) (a .state .now) (a .page .now) (a .line .now) (a .staging .now) (a .store .now) (c .if1 .taken), λ n. absurd (n refl))
 
 returns-2 : tie.Need-returns-2
 unfolding opening-words
 returns-2 c =
-    let a = c .before .before .before .before .before .before .before .before .before .before .before .before .before .before .before .before .before .before .before .before .before .before .before .before .before .before .args in
-    simp (c .answer-number .ensures, c .before .before .before .put .ensures)
-    (ap opening-words (c .before .before .before .before .before .before .before .before .before .before .before .before .before .before .«open» .ensures (shut lp2)) ∙ opens (a .lines) (a .spacing) (a .font .now) (a .state .now) (a .page .now) (a .line .now) (a .staging .now) (a .store .now) (c .before .before .before .before .before .before .before .before .before .before .before .before .before .before .before .before .before .before .before .if1 .left))
+    let a = c .before .before .before .before .before .before .before .before .before .before .before .before .before .before .before .before .before .before .before .before .before .before .before .before .before .before .args in (
+      simp (c .answer-number .ensures, c .before .before .before .put .ensures .0)
+          (ap opening-words (c .before .before .before .before .before .before .before .before .before .before .before .before .before .before .«open» .ensures (shut lp2)) ∙ opens (a .lines) (a .spacing) (a .font .now) (a .state .now) (a .page .now) (a .line .now) (a .staging .now) (a .store .now) (c .before .before .before .before .before .before .before .before .before .before .before .before .before .before .before .before .before .before .before .if1 .left)),
+      λ n. c .before .before .before .put .ensures .1,
+    )
 
 pub clocktoad-open-spec : {M : Type 1} → statement M
 clocktoad-open-spec =

@@ -2,10 +2,11 @@
 use borrow.Author.Needs.{needs}
 use Prim.Native.Nat.{ℕ}
 use mathlib.Core.List.{List, [], _∷_, _++_}
-use mathlib.Core.Path.{ap, _∙_}
+use mathlib.Core.Path.{_≡_, ap, _∙_}
 use native.Mathlib.Omega.{arith}
 use lib.ListN.{length-set}
-use Rattle.clocktoad.specs.Words.{pending-words, state-words}
+use Rattle.clocktoad.specs.Words.{is-state, pending-words, state-words}
+use Rattle.clocktoad.proofs.Kept.{put-is-state}
 use Rattle.clocktoad.proofs.Writing.{written-before}
 use Rattle.clocktoad.proofs.words.put.Statement.{statement}
 use Rattle.clocktoad.proofs.words.put.Tie as tie
@@ -54,9 +55,11 @@ returns c =
     let ys : List ℕ =
     p .form .lines ∷ p .form .spacing ∷ p .job ∷ p .head .row .0 ∷ p .head .column ∷ c .before .before .before .before .before .before .before .before .before .before .truth .result ∷ c .before .before .before .before .before .before .before .before .before .truth2 .result ∷ c .before .before .before .before .before .before .before .before .truth3 .result
     ∷ c .before .before .before .before .before .before .before .pitch-word .result ∷ c .before .before .before .before .before .before .truth4 .result ∷ c .before .before .before .before .before .truth5 .result ∷ c .before .before .before .before .truth6 .result ∷ p .tabs .low ∷ p .tabs .high ∷ [] in
-    c .before .before .put-pending .ensures
+    let e : c .before .before .put-pending .last .0 ≡ state-words p =
+    c .before .before .put-pending .ensures .0
     ∙ ap (λ (zs : List ℕ). zs ++ pending-words (p .pending)) (written-before ys (a .state .now) (omega (arith, c .before .before .before .before .before .before .before .before .before .before .before .before .before .before .before .before .pre)))
-    ∙ simp (c .before .before .before .before .before .before .before .before .before .before .truth .ensures, c .before .before .before .before .before .before .before .before .before .truth2 .ensures, c .before .before .before .before .before .before .before .before .truth3 .ensures, c .before .before .before .before .before .before .before .pitch-word .ensures, c .before .before .before .before .before .before .truth4 .ensures, c .before .before .before .before .before .truth5 .ensures, c .before .before .before .before .truth6 .ensures)
+    ∙ simp (c .before .before .before .before .before .before .before .before .before .before .truth .ensures, c .before .before .before .before .before .before .before .before .before .truth2 .ensures, c .before .before .before .before .before .before .before .before .truth3 .ensures, c .before .before .before .before .before .before .before .pitch-word .ensures, c .before .before .before .before .before .before .truth4 .ensures, c .before .before .before .before .before .truth5 .ensures, c .before .before .before .before .truth6 .ensures) in
+    (e, ap is-state e ∙ put-is-state p (omega (arith, c .before .before .before .before .before .before .before .before .before .before .before .before .before .before .before .before)) (c .before .before .put-pending .ensures .1))
 
 pub put-spec : {M : Type 1} → statement M
 put-spec =

@@ -1,56 +1,78 @@
 -- `words::put_pending` meets its contract.
 use borrow.Author.Needs.{needs}
 use mathlib.Core.List.{_++_}
-use mathlib.Core.Path.{ap, sym, _∙_}
+use mathlib.Core.Path.{ap, subst, sym, _∙_}
 use lib.ListN.{take}
 use Rattle.printer.specs.declared.Pending.{Pending}
-use Rattle.clocktoad.specs.Words.{pending-words}
+use Rattle.clocktoad.specs.Words.{Ranged, pending-words}
 use Rattle.clocktoad.proofs.words.put_pending.Statement.{statement}
 use Rattle.clocktoad.proofs.words.put_pending.Tie as tie
 
 returns : tie.Need-returns
 unfolding pending-words
-returns c = c .before .before .six .ensures ∙ sym (ap (λ (q : Pending). take 14 (c .before .before .before .before .before .before .before .args .state .now) ++ pending-words q) (c .before .before .before .before .enum-told .given .1))
+returns c =
+    let R = c .before .before .six .ensures .1 in
+    (c .before .before .six .ensures .0 ∙ sym (ap (λ (q : Pending). take 14 (c .before .before .before .before .before .before .before .args .state .now) ++ pending-words q) (c .before .before .before .before .enum-told .given .1)), subst Ranged (sym (c .before .before .before .before .enum-told .given .1)) tt)
 
 returns-2 : tie.Need-returns-2
 unfolding pending-words
-returns-2 c = c .before .before .six2 .ensures ∙ sym (ap (λ (q : Pending). take 14 (c .before .before .before .before .before .before .before .before .args .state .now) ++ pending-words q) (c .before .before .before .before .before .pending .given .1))
+returns-2 c =
+    let R = c .before .before .six2 .ensures .1 in
+    (c .before .before .six2 .ensures .0 ∙ sym (ap (λ (q : Pending). take 14 (c .before .before .before .before .before .before .before .before .args .state .now) ++ pending-words q) (c .before .before .before .before .before .pending .given .1)), subst Ranged (sym (c .before .before .before .before .before .pending .given .1)) (R .0))
 
 returns-3 : tie.Need-returns-3
 unfolding pending-words
-returns-3 c = c .before .before .six3 .ensures ∙ sym (ap (λ (q : Pending). take 14 (c .before .before .before .before .before .before .before .before .args .state .now) ++ pending-words q) (c .before .before .before .before .before .pending2 .given .1))
+returns-3 c =
+    let R = c .before .before .six3 .ensures .1 in
+    (c .before .before .six3 .ensures .0 ∙ sym (ap (λ (q : Pending). take 14 (c .before .before .before .before .before .before .before .before .args .state .now) ++ pending-words q) (c .before .before .before .before .before .pending2 .given .1)), subst Ranged (sym (c .before .before .before .before .before .pending2 .given .1)) (R .0))
 
 returns-4 : tie.Need-returns-4
 unfolding pending-words
-returns-4 c = c .before .before .six4 .ensures ∙ sym (ap (λ (q : Pending). take 14 (c .before .before .before .before .before .before .before .before .args .state .now) ++ pending-words q) (c .before .before .before .before .before .pending3 .given .1))
+returns-4 c =
+    let R = c .before .before .six4 .ensures .1 in
+    (c .before .before .six4 .ensures .0 ∙ sym (ap (λ (q : Pending). take 14 (c .before .before .before .before .before .before .before .before .args .state .now) ++ pending-words q) (c .before .before .before .before .before .pending3 .given .1)), subst Ranged (sym (c .before .before .before .before .before .pending3 .given .1)) (R .0))
 
 returns-5 : tie.Need-returns-5
 unfolding pending-words
-returns-5 c = c .before .before .six5 .ensures ∙ sym (ap (λ (q : Pending). take 14 (c .before .before .before .before .before .before .before .before .args .state .now) ++ pending-words q) (c .before .before .before .before .before .pending4 .given .1))
+returns-5 c =
+    let R = c .before .before .six5 .ensures .1 in
+    (c .before .before .six5 .ensures .0 ∙ sym (ap (λ (q : Pending). take 14 (c .before .before .before .before .before .before .before .before .args .state .now) ++ pending-words q) (c .before .before .before .before .before .pending4 .given .1)), subst Ranged (sym (c .before .before .before .before .before .pending4 .given .1)) (R .0))
 
 returns-6 : tie.Need-returns-6
 unfolding pending-words
-returns-6 c = c .before .before .six6 .ensures ∙ sym (ap (λ (q : Pending). take 14 (c .before .before .before .before .before .before .before .before .args .state .now) ++ pending-words q) (c .before .before .before .before .before .pending5 .given .1))
+returns-6 c =
+    let R = c .before .before .six6 .ensures .1 in
+    (c .before .before .six6 .ensures .0 ∙ sym (ap (λ (q : Pending). take 14 (c .before .before .before .before .before .before .before .before .args .state .now) ++ pending-words q) (c .before .before .before .before .before .pending5 .given .1)), subst Ranged (sym (c .before .before .before .before .before .pending5 .given .1)) (R .0, R .1))
 
 returns-7 : tie.Need-returns-7
 unfolding pending-words
-returns-7 c = c .before .before .six7 .ensures ∙ sym (ap (λ (q : Pending). take 14 (c .before .before .before .before .before .before .before .before .args .state .now) ++ pending-words q) (c .before .before .before .before .before .pending6 .given .1))
+returns-7 c =
+    let R = c .before .before .six7 .ensures .1 in
+    (c .before .before .six7 .ensures .0 ∙ sym (ap (λ (q : Pending). take 14 (c .before .before .before .before .before .before .before .before .args .state .now) ++ pending-words q) (c .before .before .before .before .before .pending6 .given .1)), subst Ranged (sym (c .before .before .before .before .before .pending6 .given .1)) (R .0))
 
 returns-8 : tie.Need-returns-8
 unfolding pending-words
-returns-8 c = c .before .before .six8 .ensures ∙ sym (ap (λ (q : Pending). take 14 (c .before .before .before .before .before .before .before .before .args .state .now) ++ pending-words q) (c .before .before .before .before .before .pending7 .given .1))
+returns-8 c =
+    let R = c .before .before .six8 .ensures .1 in
+    (c .before .before .six8 .ensures .0 ∙ sym (ap (λ (q : Pending). take 14 (c .before .before .before .before .before .before .before .before .args .state .now) ++ pending-words q) (c .before .before .before .before .before .pending7 .given .1)), subst Ranged (sym (c .before .before .before .before .before .pending7 .given .1)) (R .0, R .1))
 
 returns-9 : tie.Need-returns-9
 unfolding pending-words
-returns-9 c = c .before .before .six9 .ensures ∙ sym (ap (λ (q : Pending). take 14 (c .before .before .before .before .before .before .before .before .args .state .now) ++ pending-words q) (c .before .before .before .before .before .pending8 .given .1))
+returns-9 c =
+    let R = c .before .before .six9 .ensures .1 in
+    (c .before .before .six9 .ensures .0 ∙ sym (ap (λ (q : Pending). take 14 (c .before .before .before .before .before .before .before .before .args .state .now) ++ pending-words q) (c .before .before .before .before .before .pending8 .given .1)), subst Ranged (sym (c .before .before .before .before .before .pending8 .given .1)) (R .0, R .2))
 
 returns-10 : tie.Need-returns-10
 unfolding pending-words
-returns-10 c = c .before .before .six10 .ensures ∙ sym (ap (λ (q : Pending). take 14 (c .before .before .before .before .before .before .before .before .args .state .now) ++ pending-words q) (c .before .before .before .before .before .pending9 .given .1))
+returns-10 c =
+    let R = c .before .before .six10 .ensures .1 in
+    (c .before .before .six10 .ensures .0 ∙ sym (ap (λ (q : Pending). take 14 (c .before .before .before .before .before .before .before .before .args .state .now) ++ pending-words q) (c .before .before .before .before .before .pending9 .given .1)), subst Ranged (sym (c .before .before .before .before .before .pending9 .given .1)) (R .0, R .2, R .1))
 
 returns-11 : tie.Need-returns-11
 unfolding pending-words
-returns-11 c = c .before .before .six11 .ensures ∙ sym (ap (λ (q : Pending). take 14 (c .before .before .before .before .before .before .before .before .args .state .now) ++ pending-words q) (c .before .before .before .before .before .pending10 .given .1))
+returns-11 c =
+    let R = c .before .before .six11 .ensures .1 in
+    (c .before .before .six11 .ensures .0 ∙ sym (ap (λ (q : Pending). take 14 (c .before .before .before .before .before .before .before .before .args .state .now) ++ pending-words q) (c .before .before .before .before .before .pending10 .given .1)), subst Ranged (sym (c .before .before .before .before .before .pending10 .given .1)) (R .0, R .1, R .2, R .3, R .4))
 
 pub put-pending-spec : {M : Type 1} → statement M
 put-pending-spec =

@@ -17,7 +17,8 @@ slice-write-state-6 c = simp length-set (omega (arith, c .pre))
 returns : tie.Need-returns
 returns c =
     let a = c .args in
-    written-behind (a .kind ∷ a .place ∷ a .byte ∷ a .count ∷ a .address ∷ a .taken ∷ []) (a .state .now) 14 (c .pre)
+    let s = c in
+    (written-behind (a .kind ∷ a .place ∷ a .byte ∷ a .count ∷ a .address ∷ a .taken ∷ []) (a .state .now) 14 (c .pre), (omega (arith, s), omega (arith, s), omega (arith, s), omega (arith, s), omega (arith, s)))
 
 pub six-spec : {M : Type 1} → statement M
 six-spec = tie.close (tie.spec (λ c. search needs) (λ c. search needs) (λ c. search needs) (λ c. search needs) slice-write-state-5 slice-write-state-6 (λ c. search needs) returns)
