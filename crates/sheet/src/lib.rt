@@ -21,5 +21,6 @@ pub enum Pitch {
     Compressed,
 }
 
+mod groups;
 pub mod sizes;
 pub mod strike;

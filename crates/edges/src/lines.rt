@@ -1,0 +1,47 @@
+// The words of the lines. Each function answers whether standard output took its words.
+use printer::Closing;
+use protocol::Answer;
+use protocol::Fed;
+use protocol::numbers::answer_number;
+use protocol::numbers::note_number;
+use report::say;
+use report::say_number;
+
+// Writes words, what a feeding answered and how many bytes it took, and of a note its number and place.
+pub fn say_feeding(words: &[u8], f: Fed) -> bool {
+    let answer = f.answer;
+    if !say_number(words, answer_number(answer)) {
+        return false;
+    }
+    if !say_number(b" ", f.taken as u64) {
+        return false;
+    }
+    match answer {
+        Answer::Noted(fault, place) => {
+            say_number(b" note ", note_number(fault)) && say_number(b" at ", place as u64)
+        }
+        _ => true,
+    }
+}
+
+// Writes whether the memory or the state is the same as before.
+pub fn say_same(words: &[u8], same: bool) -> bool {
+    if same {
+        say(words) && say(b" same")
+    } else {
+        say(words) && say(b" changed")
+    }
+}
+
+// Writes words and how a job closes, and ends the line.
+pub fn say_closing(words: &[u8], closing: Closing) -> bool {
+    if !say(words) {
+        return false;
+    }
+    match closing {
+        Closing::Clean => say(b"CLEAN\n"),
+        Closing::Unprinted => say(b"LINE\n"),
+        Closing::Unfinished(place) => say_number(b"OPEN ", place as u64) && say(b"\n"),
+        Closing::Unsound => say(b"10\n"),
+    }
+}
