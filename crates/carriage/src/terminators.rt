@@ -8,6 +8,7 @@ ghost use Rattle.sheet.specs.Edition.{lp2};
 ghost use Rattle.sheet.specs.Form.{line, rows-per-line};
 ghost use Rattle.printer.specs.Given.{given, machine};
 ghost use Rattle.printer.specs.Room.{Kept, Strikable};
+ghost use Rattle.printer.specs.Steps.{finished, quiet};
 ghost use Rattle.printer.specs.Tabs.{line-tabs};
 ghost use Rattle.printer.specs.Terminators.{carriage-return, first-tab, form-feed, newline, strike, tab-to, vertical-tab};
 use printer::NextTab;
@@ -20,6 +21,7 @@ use sheet::sizes::fits;
 use sheet::sizes::line_of;
 use sheet::sizes::lower;
 use sheet::sizes::rows_per_line;
+use sheet::strike::strike;
 use state::parts::finished;
 use state::parts::fresh;
 use state::parts::guard;
@@ -27,15 +29,27 @@ use state::parts::quiet;
 use state::tabs::tabbed;
 
 // Strikes the line in progress at the current row; the head goes to a fresh line at row `next`.
-fn strike(p: Printer, next: Row, page: &mut [u8], line: &mut [u16]) -> Printer
+fn line_done(p: Printer, next: Row, page: &mut [u8], line: &mut [u16]) -> Stepped
     requires { ⌜ ((p .head .row .0 + 9) * 825 ≤ length (now page)) × (length (now line) ≡ 2200) ⌝ }
-    ensures { λ r. ⌜ ((staging store : List ℕ) → machine r (now (page .exit)) (now (line .exit)) staging store ≡ strike lp2 next (machine p (now (page .entry)) (now (line .entry)) staging store)) ⌝ }
+    ensures { λ r. ⌜ ((staging store : List ℕ) → given r (now (page .exit)) (now (line .exit)) staging store ≡ quiet (strike lp2 next (machine p (now (page .entry)) (now (line .entry)) staging store))) ⌝ }
 {
     let row = p.head.row;
     let style = p.style;
     let pitch = style.pitch;
-    sheet::strike::strike(page, line, row, pitch);
-    fresh(p, next)
+    strike(page, line, row, pitch);
+    quiet(fresh(p, next))
+}
+
+// The same, and with it the form is finished: row `next` is on the form that follows.
+fn form_done(p: Printer, next: Row, page: &mut [u8], line: &mut [u16]) -> Stepped
+    requires { ⌜ ((p .head .row .0 + 9) * 825 ≤ length (now page)) × (length (now line) ≡ 2200) ⌝ }
+    ensures { λ r. ⌜ ((staging store : List ℕ) → given r (now (page .exit)) (now (line .exit)) staging store ≡ finished (strike lp2 next (machine p (now (page .entry)) (now (line .entry)) staging store))) ⌝ }
+{
+    let row = p.head.row;
+    let style = p.style;
+    let pitch = style.pitch;
+    strike(page, line, row, pitch);
+    finished(fresh(p, next))
 }
 
 // The rows that a newline moves down.
@@ -62,9 +76,9 @@ pub fn newline(p: Printer, page: &mut [u8], line: &mut [u16]) -> Stepped
     }
     let next = lower(row, advance(p));
     if fits(form, next) {
-        quiet(strike(p, next, page, line))
+        line_done(p, next, page, line)
     } else {
-        finished(strike(p, Row(0), page, line))
+        form_done(p, Row(0), page, line)
     }
 }
 
@@ -76,7 +90,7 @@ pub fn form_feed(p: Printer, page: &mut [u8], line: &mut [u16]) -> Stepped
     let form = p.form;
     let row = p.head.row;
     if fits(form, row) {
-        finished(strike(p, Row(0), page, line))
+        form_done(p, Row(0), page, line)
     } else {
         guard(p)
     }
@@ -90,7 +104,7 @@ pub fn carriage_return(p: Printer, page: &mut [u8], line: &mut [u16]) -> Stepped
     let form = p.form;
     let row = p.head.row;
     if fits(form, row) {
-        quiet(strike(p, row, page, line))
+        line_done(p, row, page, line)
     } else {
         guard(p)
     }
@@ -119,12 +133,12 @@ fn tab_to(p: Printer, below: NextTab, lowest: NextTab, page: &mut [u8], line: &m
 {
     let form = p.form;
     match below {
-        NextTab::Tabbed(n) => quiet(strike(p, first_row(form, n), page, line)),
+        NextTab::Tabbed(n) => line_done(p, first_row(form, n), page, line),
         NextTab::Untabbed => match lowest {
-            NextTab::Tabbed(n) => finished(strike(p, first_row(form, n), page, line)),
+            NextTab::Tabbed(n) => form_done(p, first_row(form, n), page, line),
             NextTab::Untabbed => {
                 let row = p.head.row;
-                quiet(strike(p, row, page, line))
+                line_done(p, row, page, line)
             }
         },
     }

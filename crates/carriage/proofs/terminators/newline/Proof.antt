@@ -21,19 +21,19 @@ returns c staging store = simp (c .guard .ensures, ← c .before .before .fits2 
 lower-requires : tie.Need-lower-requires
 lower-requires c κs = (row-bound (c .before .before .before .before .before .before .before .pre) (sym (c .before .before .fits2 .ensures) ∙ not-false (c .before .before .fits2 .result) (c .before .if1 .left)), c .advance .ensures .1)
 
-strike-requires : tie.Need-strike-requires
-strike-requires c κs = rows-on-page (c .before .before .before .before .before .before .before .before .before .before .before .before .pre) (sym (c .before .before .before .before .before .before .before .fits2 .ensures) ∙ not-false (c .before .before .before .before .before .before .before .fits2 .result) (c .before .before .before .before .before .before .if1 .left))
+line-done-requires : tie.Need-line-done-requires
+line-done-requires c κs = rows-on-page (c .before .before .before .before .before .before .before .before .before .before .before .before .pre) (sym (c .before .before .before .before .before .before .before .fits2 .ensures) ∙ not-false (c .before .before .before .before .before .before .before .fits2 .result) (c .before .before .before .before .before .before .if1 .left))
 
-strike-requires-2 : tie.Need-strike-requires-2
-strike-requires-2 c κs = rows-on-page (c .before .before .before .before .before .before .before .before .before .before .before .before .pre) (sym (c .before .before .before .before .before .before .before .fits2 .ensures) ∙ not-false (c .before .before .before .before .before .before .before .fits2 .result) (c .before .before .before .before .before .before .if1 .left))
+form-done-requires : tie.Need-form-done-requires
+form-done-requires c κs = rows-on-page (c .before .before .before .before .before .before .before .before .before .before .before .before .pre) (sym (c .before .before .before .before .before .before .before .fits2 .ensures) ∙ not-false (c .before .before .before .before .before .before .before .fits2 .result) (c .before .before .before .before .before .before .if1 .left))
 
 returns-2 : tie.Need-returns-2
 unfolding newline guarded
-returns-2 c staging store = let a = c .before .before .before .before .before .before .before .before .before .before .before .before .before .before .before .before .before .before .args in let next : c .before .before .before .before .before .before .before .before .before .before .lower .result ≡ lower (cond (a .p .head .plotted) 7 (rows-per-line (a .p .form .spacing))) (a .p .head .row) = c .before .before .before .before .before .before .before .before .before .before .lower .ensures ∙ ap (λ (n : ℕ). lower n (a .p .head .row)) (c .before .before .before .before .before .before .before .before .before .before .before .advance .ensures .0) in let fit : fits (a .p .form) (lower (cond (a .p .head .plotted) 7 (rows-per-line (a .p .form .spacing))) (a .p .head .row)) ≡ true = ap (fits (a .p .form)) (sym next) ∙ sym (c .before .before .before .before .before .before .before .before .before .fits3 .ensures) ∙ c .before .before .before .before .before .before .before .before .if2 .taken in simp (c .quiet .ensures, sym (c .before .before .before .before .before .before .before .before .before .before .before .before .before .fits2 .ensures) ∙ not-false (c .before .before .before .before .before .before .before .before .before .before .before .before .before .fits2 .result) (c .before .before .before .before .before .before .before .before .before .before .before .before .if1 .left), fit) (ap quiet (c .before .before .before .before .before .strike .ensures staging store ∙ ap (λ (r : Row). strike lp2 r (machine (a .p) (a .page .now) (a .line .now) staging store)) next))
+returns-2 c staging store = let a = c .before .before .before .before .before .before .before .before .before .before .before .before .before .before .before .before .before .args in let next : c .before .before .before .before .before .before .before .before .before .lower .result ≡ lower (cond (a .p .head .plotted) 7 (rows-per-line (a .p .form .spacing))) (a .p .head .row) = c .before .before .before .before .before .before .before .before .before .lower .ensures ∙ ap (λ (n : ℕ). lower n (a .p .head .row)) (c .before .before .before .before .before .before .before .before .before .before .advance .ensures .0) in let fit : fits (a .p .form) (lower (cond (a .p .head .plotted) 7 (rows-per-line (a .p .form .spacing))) (a .p .head .row)) ≡ true = ap (fits (a .p .form)) (sym next) ∙ sym (c .before .before .before .before .before .before .before .before .fits3 .ensures) ∙ c .before .before .before .before .before .before .before .if2 .taken in simp (sym (c .before .before .before .before .before .before .before .before .before .before .before .before .fits2 .ensures) ∙ not-false (c .before .before .before .before .before .before .before .before .before .before .before .before .fits2 .result) (c .before .before .before .before .before .before .before .before .before .before .before .if1 .left), fit) (c .before .before .before .before .line-done .ensures staging store ∙ ap (λ (r : Row). quiet (strike lp2 r (machine (a .p) (a .page .now) (a .line .now) staging store))) next)
 
 returns-3 : tie.Need-returns-3
 unfolding newline guarded
-returns-3 c staging store = let a = c .before .before .before .before .before .before .before .before .before .before .before .before .before .before .before .before .before .before .args in let next : c .before .before .before .before .before .before .before .before .before .before .lower .result ≡ lower (cond (a .p .head .plotted) 7 (rows-per-line (a .p .form .spacing))) (a .p .head .row) = c .before .before .before .before .before .before .before .before .before .before .lower .ensures ∙ ap (λ (n : ℕ). lower n (a .p .head .row)) (c .before .before .before .before .before .before .before .before .before .before .before .advance .ensures .0) in let fit : fits (a .p .form) (lower (cond (a .p .head .plotted) 7 (rows-per-line (a .p .form .spacing))) (a .p .head .row)) ≡ false = ap (fits (a .p .form)) (sym next) ∙ sym (c .before .before .before .before .before .before .before .before .before .fits3 .ensures) ∙ c .before .before .before .before .before .before .before .before .if2 .left in simp (c .finished .ensures, sym (c .before .before .before .before .before .before .before .before .before .before .before .before .before .fits2 .ensures) ∙ not-false (c .before .before .before .before .before .before .before .before .before .before .before .before .before .fits2 .result) (c .before .before .before .before .before .before .before .before .before .before .before .before .if1 .left), fit) (ap finished (c .before .before .before .before .before .strike2 .ensures staging store))
+returns-3 c staging store = let a = c .before .before .before .before .before .before .before .before .before .before .before .before .before .before .before .before .before .args in let next : c .before .before .before .before .before .before .before .before .before .lower .result ≡ lower (cond (a .p .head .plotted) 7 (rows-per-line (a .p .form .spacing))) (a .p .head .row) = c .before .before .before .before .before .before .before .before .before .lower .ensures ∙ ap (λ (n : ℕ). lower n (a .p .head .row)) (c .before .before .before .before .before .before .before .before .before .before .advance .ensures .0) in let fit : fits (a .p .form) (lower (cond (a .p .head .plotted) 7 (rows-per-line (a .p .form .spacing))) (a .p .head .row)) ≡ false = ap (fits (a .p .form)) (sym next) ∙ sym (c .before .before .before .before .before .before .before .before .fits3 .ensures) ∙ c .before .before .before .before .before .before .before .if2 .left in simp (sym (c .before .before .before .before .before .before .before .before .before .before .before .before .fits2 .ensures) ∙ not-false (c .before .before .before .before .before .before .before .before .before .before .before .before .fits2 .result) (c .before .before .before .before .before .before .before .before .before .before .before .if1 .left), fit) (c .before .before .before .before .form-done .ensures staging store)
 
 pub newline-spec : {M : Type 1} → statement M
-newline-spec = tie.close (tie.spec (λ c κs. search needs) (λ c κs. search needs) returns (λ c κs. search needs) lower-requires (λ c κs. search needs) strike-requires (λ c κs. search needs) strike-requires-2 (λ c κs. search needs) (λ c. search needs) (λ c. search needs) returns-2 (λ c. search needs) (λ c. search needs) returns-3)
+newline-spec = tie.close (tie.spec (λ c κs. search needs) (λ c κs. search needs) returns (λ c κs. search needs) lower-requires (λ c κs. search needs) line-done-requires form-done-requires (λ c. search needs) (λ c. search needs) returns-2 (λ c. search needs) (λ c. search needs) returns-3)

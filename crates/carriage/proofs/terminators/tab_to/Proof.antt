@@ -17,15 +17,15 @@ first-row-requires-2 c κs = let k = subst Kept (c .before .lowest .given .1) (c
 
 returns : tie.Need-returns
 unfolding tab-to
-returns c staging store = simp (c .quiet .ensures, c .before .before .before .before .before .before .before .before .before .before .below .given .1) (ap quiet (c .before .before .before .before .before .strike .ensures staging store ∙ ap (λ (r : Row). strike lp2 r (machine (c .before .before .before .before .before .before .before .before .before .before .before .before .before .before .before .args .p) (c .before .before .before .before .before .before .before .before .before .before .before .before .before .before .before .args .page .now) (c .before .before .before .before .before .before .before .before .before .before .before .before .before .before .before .args .line .now) staging store)) (c .before .before .before .before .before .before .before .before .first-row .ensures)))
+returns c staging store = simp (c .before .before .before .before .before .before .before .before .before .below .given .1) (c .before .before .before .before .line-done .ensures staging store ∙ ap (λ (r : Row). quiet (strike lp2 r (machine (c .before .before .before .before .before .before .before .before .before .before .before .before .before .before .args .p) (c .before .before .before .before .before .before .before .before .before .before .before .before .before .before .args .page .now) (c .before .before .before .before .before .before .before .before .before .before .before .before .before .before .args .line .now) staging store))) (c .before .before .before .before .before .before .before .first-row .ensures))
 
 returns-2 : tie.Need-returns-2
 unfolding tab-to
-returns-2 c staging store = simp (c .finished .ensures, c .before .before .before .before .before .before .before .before .before .before .before .before .enum-told .given .1, c .before .before .before .before .before .before .before .before .before .before .lowest .given .1) (ap finished (c .before .before .before .before .before .strike2 .ensures staging store ∙ ap (λ (r : Row). strike lp2 r (machine (c .before .before .before .before .before .before .before .before .before .before .before .before .before .before .before .before .before .args .p) (c .before .before .before .before .before .before .before .before .before .before .before .before .before .before .before .before .before .args .page .now) (c .before .before .before .before .before .before .before .before .before .before .before .before .before .before .before .before .before .args .line .now) staging store)) (c .before .before .before .before .before .before .before .before .first-row2 .ensures)))
+returns-2 c staging store = simp (c .before .before .before .before .before .before .before .before .before .before .before .enum-told .given .1, c .before .before .before .before .before .before .before .before .before .lowest .given .1) (c .before .before .before .before .form-done .ensures staging store ∙ ap (λ (r : Row). finished (strike lp2 r (machine (c .before .before .before .before .before .before .before .before .before .before .before .before .before .before .before .before .args .p) (c .before .before .before .before .before .before .before .before .before .before .before .before .before .before .before .before .args .page .now) (c .before .before .before .before .before .before .before .before .before .before .before .before .before .before .before .before .args .line .now) staging store))) (c .before .before .before .before .before .before .before .first-row2 .ensures))
 
 returns-3 : tie.Need-returns-3
 unfolding tab-to
-returns-3 c staging store = simp (c .quiet2 .ensures, c .before .before .before .before .before .before .before .before .before .before .before .enum-told .given .1, c .before .before .before .before .before .before .before .before .before .enum-told2 .given .1) (ap quiet (c .before .before .before .before .before .strike3 .ensures staging store))
+returns-3 c staging store = simp (c .before .before .before .before .before .before .before .before .before .before .enum-told .given .1, c .before .before .before .before .before .before .before .before .enum-told2 .given .1) (c .before .before .before .before .line-done2 .ensures staging store)
 
 pub tab-to-spec : {M : Type 1} → statement M
-tab-to-spec = tie.close (tie.spec (λ c. search needs) first-row-requires (λ c κs. search needs) (λ c κs. search needs) (λ c. search needs) (λ c. search needs) first-row-requires-2 (λ c κs. search needs) (λ c κs. search needs) (λ c. search needs) (λ c κs. search needs) (λ c κs. search needs) (λ c. search needs) (λ c. search needs) returns (λ c. search needs) (λ c. search needs) returns-2 (λ c. search needs) (λ c. search needs) returns-3)
+tab-to-spec = tie.close (tie.spec (λ c. search needs) first-row-requires (λ c κs. search needs) (λ c. search needs) (λ c. search needs) first-row-requires-2 (λ c κs. search needs) (λ c. search needs) (λ c κs. search needs) (λ c. search needs) (λ c. search needs) returns (λ c. search needs) (λ c. search needs) returns-2 (λ c. search needs) (λ c. search needs) returns-3)
