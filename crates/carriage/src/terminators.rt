@@ -21,12 +21,12 @@ use sheet::sizes::fits;
 use sheet::sizes::line_of;
 use sheet::sizes::lower;
 use sheet::sizes::rows_per_line;
-use sheet::strike::strike;
 use state::parts::finished;
 use state::parts::fresh;
 use state::parts::guard;
 use state::parts::quiet;
 use state::tabs::tabbed;
+use striking::strike::strike;
 
 // Strikes the line in progress at the current row; the head goes to a fresh line at row `next`.
 fn line_done(p: Printer, next: Row, page: &mut [u8], line: &mut [u16]) -> Stepped

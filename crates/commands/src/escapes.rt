@@ -15,8 +15,6 @@ use sheet::Form;
 use sheet::Line;
 use sheet::Pitch;
 use sheet::sizes::line_of;
-use sheet::strike::blank;
-use sheet::strike::empty;
 use state::parts::after_reset;
 use state::parts::begin_plot;
 use state::parts::noted;
@@ -26,6 +24,8 @@ use state::parts::set_elongated;
 use state::parts::set_pitch;
 use state::parts::set_underscore;
 use state::tabs::with_tab;
+use striking::strike::blank;
+use striking::strike::empty;
 
 // The tab of a line set or cleared.
 fn tab(p: Printer, on: bool, line: Line) -> Printer

@@ -34,10 +34,10 @@ use sheet::Row;
 use sheet::sizes::lines_allowed;
 use sheet::sizes::page_bytes;
 use sheet::sizes::spacing_allowed;
-use sheet::strike::blank;
-use sheet::strike::empty;
 use state::sound::closing;
 use state::sound::sound;
+use striking::strike::blank;
+use striking::strike::empty;
 
 // The first of what is lent that has not its exact length.
 fn fit(form: Form, page: &[u8], line: &[u16], staging: &[u8], store: &[u8], font: &[u8]) -> Fit

@@ -12,7 +12,7 @@ use report::say_note;
 use report::say_number;
 use report::unread;
 use report::unwritten;
-use sheet::strike::blank;
+use striking::strike::blank;
 
 // How a listing goes on.
 enum Next {

@@ -19,7 +19,7 @@ use report::say_number;
 use sheet::Form;
 use sheet::sizes::form_rows;
 use sheet::sizes::spacing_allowed;
-use sheet::strike::blank;
+use striking::strike::blank;
 
 // A replay so far: the printer, how many forms are finished, how many bytes of the present piece are taken, whether the job goes on, and whether
 // standard output took every line.

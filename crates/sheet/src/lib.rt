@@ -21,6 +21,4 @@ pub enum Pitch {
     Compressed,
 }
 
-mod groups;
 pub mod sizes;
-pub mod strike;

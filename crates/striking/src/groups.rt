@@ -1,0 +1,149 @@
+// Striking eight columns at a time. Eight columns fill whole bytes of a row, five in normal pitch and three in compressed. So the dots of
+// one wire of eight columns are the bytes of one number, and that wire of all eight is struck by joining those bytes to the page's.
+ghost use Prim.Native.Nat.{ℕ, _+_, _*_, _%_, _≤_, _<_};
+ghost use mathlib.Core.Path.{_≡_};
+ghost use mathlib.Core.List.{List};
+ghost use lib.ListN.{length, take, drop};
+ghost use Rattle.sheet.specs.declared.Row.{Row};
+ghost use Rattle.sheet.specs.declared.Pitch.the-variants.{Normal, Compressed};
+ghost use Rattle.sheet.specs.Edition.{lp2};
+ghost use Rattle.sheet.specs.Dots.{blacken-all, dot-at, line-marks};
+ghost use Rattle.striking.specs.Groups.{any-wires, fields, wire-dots, join};
+ghost use Rattle.striking.specs.Room.{Room};
+use sheet::Pitch;
+use sheet::Row;
+use sheet::sizes::grid;
+
+// The wires that any of the eight columns from c on has.
+fn any_wires(line: &[u16], c: usize) -> u16
+    requires { ⌜ c + 8 ≤ length (now line) ⌝ }
+    ensures { λ r. ⌜ r ≡ any-wires (take 8 (drop c (now (line .entry)))) ⌝ }
+{
+    let mut any: u16 = 0;
+    let mut k = 8;
+    while 0 < k {
+        k -= 1;
+        any = line[c + k] | any;
+    }
+    any
+}
+
+// Puts some wires of each of the eight columns from c on into one number, side by side in fields of one size, the first column's field
+// highest. A field holds numbers below `base`, and has the column's bits from bit `skip` on.
+fn fields(line: &[u16], c: usize, base: u64, skip: u32) -> u64
+    requires { ⌜ (c + 8 ≤ length (now line)) × (1 ≤ base) × (base ≤ 32) × (skip < 16) ⌝ }
+    ensures { λ r. ⌜ r ≡ fields base skip (take 8 (drop c (now (line .entry)))) 0 ⌝ }
+{
+    let mut f: u64 = 0;
+    let mut k = 0;
+    while k < 8 {
+        let wires = (line[c + k] >> skip) as u64;
+        f = f * base + wires % base;
+        k += 1;
+    }
+    f
+}
+
+// Strikes one wire of eight columns in normal pitch: the one at bit `wire` of each field. Its dots are in the five bytes from `at` on.
+// The mask keeps one bit of each field of five, and a column's dot is at the top of its five positions.
+fn wire_normal(page: &mut [u8], at: usize, fields: u64, wire: u32)
+    requires { ⌜ (at + 5 ≤ length (now page)) × (wire < 5) ⌝ }
+    ensures { λ _. ⌜ now (page .exit) ≡ join (now (page .entry)) at 5 (wire-dots 32 fields wire) ⌝ }
+{
+    let dots = ((fields >> wire) & 0x842108421) * 16;
+    page[at] = page[at] | ((dots / 0x100000000 % 256) as u8);
+    page[at + 1] = page[at + 1] | ((dots / 0x1000000 % 256) as u8);
+    page[at + 2] = page[at + 2] | ((dots / 0x10000 % 256) as u8);
+    page[at + 3] = page[at + 3] | ((dots / 0x100 % 256) as u8);
+    page[at + 4] = page[at + 4] | ((dots % 256) as u8);
+}
+
+// Strikes one wire of eight columns in compressed pitch: the one at bit `wire` of each field. Its dots are in the three bytes from `at` on.
+// The mask keeps one bit of each field of three, and a column's dot is at the top of its three positions.
+fn wire_compressed(page: &mut [u8], at: usize, fields: u64, wire: u32)
+    requires { ⌜ (at + 3 ≤ length (now page)) × (wire < 3) ⌝ }
+    ensures { λ _. ⌜ now (page .exit) ≡ join (now (page .entry)) at 3 (wire-dots 8 fields wire) ⌝ }
+{
+    let dots = ((fields >> wire) & 0x249249) * 4;
+    page[at] = page[at] | ((dots / 0x10000 % 256) as u8);
+    page[at + 1] = page[at + 1] | ((dots / 0x100 % 256) as u8);
+    page[at + 2] = page[at + 2] | ((dots % 256) as u8);
+}
+
+// Strikes the nine wires of eight columns in normal pitch, each a row below the one before: wires 1 to 4 are in the fields `high`, 5 to 9
+// in `low`.
+fn wires_normal(page: &mut [u8], at: usize, low: u64, high: u64)
+    requires { ⌜ at + 6605 ≤ length (now page) ⌝ }
+    ensures { λ _. ⌜ ((columns : List ℕ) (r : Row) (c : ℕ) → length columns ≡ 8 → low ≡ fields 32 0 columns 0 → high ≡ fields 32 5 columns 0
+        → at * 8 ≡ dot-at lp2 r (lp2 .grid Normal c) → now (page .exit) ≡ blacken-all (now (page .entry)) (line-marks lp2 columns Normal r c)) ⌝ }
+{
+    wire_normal(page, at, high, 3);
+    wire_normal(page, at + 825, high, 2);
+    wire_normal(page, at + 1650, high, 1);
+    wire_normal(page, at + 2475, high, 0);
+    wire_normal(page, at + 3300, low, 4);
+    wire_normal(page, at + 4125, low, 3);
+    wire_normal(page, at + 4950, low, 2);
+    wire_normal(page, at + 5775, low, 1);
+    wire_normal(page, at + 6600, low, 0);
+}
+
+// Strikes the nine wires of eight columns in compressed pitch, each a row below the one before: wires 1 to 3 are in the fields `high`, 4 to 6
+// in `middle`, 7 to 9 in `low`.
+fn wires_compressed(page: &mut [u8], at: usize, low: u64, middle: u64, high: u64)
+    requires { ⌜ at + 6603 ≤ length (now page) ⌝ }
+    ensures { λ _. ⌜ ((columns : List ℕ) (r : Row) (c : ℕ) → length columns ≡ 8 → low ≡ fields 8 0 columns 0 → middle ≡ fields 8 3 columns 0
+        → high ≡ fields 8 6 columns 0 → at * 8 ≡ dot-at lp2 r (lp2 .grid Compressed c)
+        → now (page .exit) ≡ blacken-all (now (page .entry)) (line-marks lp2 columns Compressed r c)) ⌝ }
+{
+    wire_compressed(page, at, high, 2);
+    wire_compressed(page, at + 825, high, 1);
+    wire_compressed(page, at + 1650, high, 0);
+    wire_compressed(page, at + 2475, middle, 2);
+    wire_compressed(page, at + 3300, middle, 1);
+    wire_compressed(page, at + 4125, middle, 0);
+    wire_compressed(page, at + 4950, low, 2);
+    wire_compressed(page, at + 5775, low, 1);
+    wire_compressed(page, at + 6600, low, 0);
+}
+
+// Strikes the eight columns from c on, in normal pitch.
+fn eight_normal(page: &mut [u8], line: &[u16], at: usize, c: usize)
+    requires { ⌜ (at + 6605 ≤ length (now page)) × (c + 8 ≤ length (now line)) ⌝ }
+    ensures { λ _. ⌜ ((r : Row) → at * 8 ≡ dot-at lp2 r (lp2 .grid Normal c)
+        → now (page .exit) ≡ blacken-all (now (page .entry)) (line-marks lp2 (take 8 (drop c (now (line .entry)))) Normal r c)) ⌝ }
+{
+    let low = fields(line, c, 32, 0);
+    let high = fields(line, c, 32, 5);
+    wires_normal(page, at, low, high);
+}
+
+// Strikes the eight columns from c on, in compressed pitch.
+fn eight_compressed(page: &mut [u8], line: &[u16], at: usize, c: usize)
+    requires { ⌜ (at + 6603 ≤ length (now page)) × (c + 8 ≤ length (now line)) ⌝ }
+    ensures { λ _. ⌜ ((r : Row) → at * 8 ≡ dot-at lp2 r (lp2 .grid Compressed c)
+        → now (page .exit) ≡ blacken-all (now (page .entry)) (line-marks lp2 (take 8 (drop c (now (line .entry)))) Compressed r c)) ⌝ }
+{
+    let low = fields(line, c, 8, 0);
+    let middle = fields(line, c, 8, 3);
+    let high = fields(line, c, 8, 6);
+    wires_compressed(page, at, low, middle, high);
+}
+
+// Strikes the eight columns from c on, with wire 1 in `row`. As c is a multiple of eight, their dots begin at the top of a byte. Eight
+// empty columns are passed over.
+pub fn eight(page: &mut [u8], line: &[u16], row: Row, pitch: Pitch, c: usize)
+    requires { ⌜ Room (now page) (now line) row ⌝ }
+    requires { ⌜ (c % 8 ≡ 0) × (c < lp2 .width pitch) ⌝ }
+    ensures { λ _. ⌜ now (page .exit) ≡ blacken-all (now (page .entry)) (line-marks lp2 (take 8 (drop c (now (line .entry)))) pitch row c) ⌝ }
+{
+    if any_wires(line, c) == 0 {
+        return;
+    }
+    let place = grid(pitch, c);
+    let at = row.0 * 825 + place.0 / 8;
+    match pitch {
+        Pitch::Normal => eight_normal(page, line, at, c),
+        Pitch::Compressed => eight_compressed(page, line, at, c),
+    }
+}
