@@ -5,13 +5,12 @@ use mathlib.Core.Bool.{cond, _&&_}
 use mathlib.Core.List.{List, [], _∷_}
 use lib.Dec.{eqb}
 use lib.ListN.{length}
-use Rattle.sheet.specs.declared.Form.{Form}
 use Rattle.sheet.specs.Edition.{lp2}
 use Rattle.sheet.specs.Form.{lines-allowed, page-bytes, spacing-allowed}
 use Rattle.printer.specs.declared.Closing.{Closing}
 use Rattle.printer.specs.Closing.{closing}
 use Rattle.printer.specs.Given.{machine}
-use Rattle.printer.specs.Machine.{Machine, shut}
+use Rattle.printer.specs.Machine.{shut}
 use Rattle.protocol.specs.Answers.{close-place, close-report, noted-number, noted-place, refusal, report}
 use Rattle.protocol.specs.Calls.{Feeding, Opening, feeding, opening}
 use Rattle.clocktoad.specs.Words.{is-state, state-of, state-words}

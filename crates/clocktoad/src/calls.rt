@@ -4,7 +4,7 @@ ghost use mathlib.Core.Bool.{true};
 ghost use mathlib.Core.List.{[], _∷_};
 ghost use lib.ListN.{length};
 ghost use Prim.Native.Nat.{_≤_};
-ghost use Rattle.clocktoad.specs.Calls.{Closed, called, close-call, feed-call, open-call};
+ghost use Rattle.clocktoad.specs.Calls.{called, close-call, feed-call, open-call};
 ghost use Rattle.clocktoad.specs.Words.{is-state};
 use crate::words::is_state;
 use crate::words::put;

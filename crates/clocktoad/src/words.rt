@@ -3,7 +3,6 @@ ghost use mathlib.Core.Path.{_≡_};
 ghost use mathlib.Core.Bool.{true};
 ghost use mathlib.Core.List.{[], _∷_, _++_};
 ghost use Prim.Native.Nat.{_+_, _≤_};
-ghost use lib.Dec.{eqb};
 ghost use lib.ListN.{length, take};
 ghost use Rattle.clocktoad.specs.Words.{Ranged, at-most, is-state, part, pending-of, pending-words, pitch-of, pitch-word, state-of, state-words, truth};
 use printer::Head;

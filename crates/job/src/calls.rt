@@ -1,7 +1,6 @@
 // Opening, feeding and closing a job. Each call takes whatever it is handed, and refuses by number what doesn't fit.
 ghost use mathlib.Core.Path.{_≡_};
-ghost use mathlib.Core.List.{List};
-ghost use Prim.Native.Nat.{ℕ, _+_, _≤_};
+ghost use Prim.Native.Nat.{_+_, _≤_};
 ghost use lib.ListN.{drop, length};
 ghost use Rattle.sheet.specs.declared.Form.{Form};
 ghost use Rattle.sheet.specs.Edition.{lp2};

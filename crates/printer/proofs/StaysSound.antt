@@ -1,11 +1,11 @@
 -- Every byte keeps a machine ready, its state sound and its memory of its lengths, and none comes to the guard.
 use Prim.Native.Nat.{ℕ, zero-le, _+_, _-_, _*_, _%_, _≤_, _<_}
-use mathlib.Core.Bool.{Bool, true, false, not, _&&_, _||_, and-eq-true-iff, true≢false}
+use mathlib.Core.Bool.{Bool, true, false, not, _||_, and-eq-true-iff, true≢false}
 use mathlib.Core.List.{List, [], _∷_}
 use mathlib.Core.Path.{_≡_, refl, sym, subst, _∙_}
 use native.Mathlib.Omega.{arith}
 use borrow.Author.Tests.{le-leb, leb-true, ltb-false, ltb-true}
-use lib.Dec.{T, eqb, leb, ltb}
+use lib.Dec.{T, eqb, ltb}
 use lib.ListN.{drop, length, length-append, length-drop, length-set, length-take, set}
 use lib.Seq.{getD-drop}
 use Rattle.sheet.specs.declared.Form.{Form}

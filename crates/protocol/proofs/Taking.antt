@@ -1,6 +1,6 @@
 -- The turns of the loop that takes the bytes of a piece, and its ends.
 use Prim.Native.Nat.{ℕ, suc, _+_, _≤_, _<_}
-use mathlib.Core.Bool.{Bool, true, false, true≢false}
+use mathlib.Core.Bool.{true, false, true≢false}
 use mathlib.Core.List.{List}
 use mathlib.Core.Path.{_≡_, refl, ap, sym, _∙_}
 use native.Mathlib.Numerals.{add-one}
@@ -9,7 +9,7 @@ use borrow.Author.Tests.{le-ltb, lt-ltb}
 use lib.ListN.{drop, drop-of-length-le, getD, length, replicate}
 use lib.Seq.{drop-cons}
 use Rattle.sheet.specs.declared.Form.{Form}
-use Rattle.sheet.specs.Edition.{Edition, lp2}
+use Rattle.sheet.specs.Edition.{lp2}
 use Rattle.sheet.specs.Form.{blank-page, page-bytes}
 use Rattle.sheet.proofs.Editions.{lp2-proper}
 use Rattle.printer.specs.declared.Event.{Event}

@@ -5,7 +5,6 @@ use mathlib.Core.Logic.{_⊎_, inl, inr}
 use mathlib.Core.Path.{_≡_, ap}
 use native.Mathlib.Omega.{arith}
 use borrow.Author.Tests.{le-leb, le-ltb, lt-leb, lt-ltb, ne-eqb}
-use lib.Dec.{leb}
 use Rattle.sheet.specs.Edition.{Edition}
 use Rattle.printer.specs.declared.Fault.the-variants.{HighByte, UnnamedControl}
 use Rattle.printer.specs.Alone.{text-byte}

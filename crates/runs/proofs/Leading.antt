@@ -1,7 +1,7 @@
 -- A run, byte by byte.
 use Prim.Native.Nat.{ℕ, _+_, _<_}
 use mathlib.Core.List.{List}
-use mathlib.Core.Path.{_≡_, refl, subst, ap, sym, _∙_}
+use mathlib.Core.Path.{_≡_, refl, subst, sym, _∙_}
 use native.Mathlib.Omega.{arith}
 use lib.ListN.{getD, length}
 use Rattle.sheet.specs.Edition.{lp2}
@@ -11,7 +11,6 @@ use Rattle.printer.specs.Steps.{Step, quiet}
 use Rattle.printer.proofs.Ready.{Ready}
 use Rattle.printer.proofs.StaysSound.{step-fine}
 use Rattle.protocol.specs.Calls.{limit}
-use Rattle.protocol.specs.Given.{is-quiet}
 use Rattle.protocol.proofs.Taking.{more-zero, taken-on}
 use Rattle.runs.specs.Leads.{Leads}
 

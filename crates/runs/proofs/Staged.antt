@@ -1,10 +1,9 @@
 -- A payload byte of a run.
 use Prim.Native.Nat.{ℕ, _+_, _<_}
 use mathlib.Core.List.{List}
-use mathlib.Core.Path.{_≡_, ap, subst, sym}
+use mathlib.Core.Path.{_≡_, ap, subst}
 use borrow.Author.Tests.{lt-ltb}
 use lib.ListN.{getD, length, set}
-use Rattle.sheet.specs.Edition.{lp2}
 use Rattle.printer.specs.declared.Load.{Load}
 use Rattle.printer.specs.declared.Pending.{Pending}
 use Rattle.printer.specs.declared.Pending.the-variants.{Payload}
@@ -12,7 +11,6 @@ use Rattle.printer.specs.declared.Printer.{Printer}
 use Rattle.printer.specs.Bytes.{act, loaded, payload-byte, step}
 use Rattle.printer.specs.Given.{machine}
 use Rattle.printer.specs.Machine.{Machine}
-use Rattle.printer.specs.Steps.{quiet}
 use Rattle.protocol.specs.Calls.{limit}
 use Rattle.runs.specs.Leads.{Leads, loading}
 use Rattle.runs.proofs.Leading.{leads-nowhere, leads-on}

@@ -5,7 +5,6 @@ ghost use Prim.Native.Nat.{ℕ, _+_, _≤_};
 ghost use lib.ListN.{length};
 ghost use Rattle.printer.specs.declared.Pending.the-variants.{Nothing};
 ghost use Rattle.printer.specs.Given.{machine};
-ghost use Rattle.printer.specs.Machine.{Machine};
 ghost use Rattle.printer.specs.Room.{Writable};
 ghost use Rattle.runs.specs.Leads.{Leads};
 use crate::Ran;

@@ -1,6 +1,5 @@
 // Which states are sound, and what is said of a job that is closed.
 ghost use mathlib.Core.Path.{_≡_};
-ghost use Prim.Native.Nat.{_≤_};
 ghost use Rattle.sheet.specs.Edition.{lp2};
 ghost use Rattle.printer.specs.Closing.{closing};
 ghost use Rattle.printer.specs.Sound.{at-most-escape, begun, form-sound, fresh-sound, load-sound, place-sound, plot-sound, sound, tabs-sound};

@@ -3,13 +3,12 @@ use Prim.Native.Nat.{ℕ, zero, suc, _+_, _-_, _*_, _/_, _%_, _^_, _≤_, _<_}
 use mathlib.Core.Path.{_≡_, refl, sym, ap, ap₂, _∙_}
 use mathlib.Core.List.{List, [], _∷_, _++_}
 use native.Mathlib.Omega.{arith}
-use native.Mathlib.Nat.{zero-div, mul-comm, pow-suc, add-zero, zero-add, add-comm, zero-mul, suc-mul, mul-le-mul-left, mul-le-mul-right, mod-lt}
-use native.Mathlib.Decide.{decLt}
+use native.Mathlib.Nat.{mul-comm, pow-suc, add-zero, zero-add, add-comm, zero-mul, suc-mul, mul-le-mul-left, mul-le-mul-right, mod-lt}
 use native.Mathlib.Numerals.{add-one}
 use lib.Pow.{pow-add, pow-mono, pow-pos, pow-lt, shr-shr, split, high, low, field, mod-mod-pow}
-use lib.Bits.{bitAnd, bitOr, or-zero-r, or-add-and, and-le-l, and-le-r, and-zero-r, and-block, and-mask}
+use lib.Bits.{bitAnd, bitOr, or-add-and, and-le-l, and-le-r, and-zero-r, and-block, and-mask}
 use lib.ListN.{length, getD, set, take, drop, drop-of-length-le, length-drop}
-use lib.Seq.{drop-cons, drop-length, set-getD, getD-take, getD-drop, length-take-le}
+use lib.Seq.{drop-cons, drop-length, getD-take, getD-drop, length-take-le}
 use mir.Syntax.{w64}
 use mir.Val.{Fits}
 use Rattle.sheet.specs.declared.Grid.{Grid}

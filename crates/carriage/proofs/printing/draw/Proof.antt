@@ -1,3 +1,4 @@
+-- `printing::draw` meets its contract.
 use borrow.Author.Needs.{needs}
 use Rattle.carriage.proofs.printing.draw.Statement.{statement}
 use Rattle.carriage.proofs.printing.draw.Tie as tie

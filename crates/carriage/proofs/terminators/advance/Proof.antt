@@ -1,3 +1,4 @@
+-- `terminators::advance` meets its contract.
 use borrow.Author.Needs.{needs}
 use native.Mathlib.Omega.{arith}
 use Rattle.sheet.proofs.Units.{twelve-rows}

@@ -1,7 +1,7 @@
+-- `terminators::carriage_return` meets its contract.
 use borrow.Author.Needs.{needs}
-use mathlib.Core.Path.{ap, sym, _∙_}
+use mathlib.Core.Path.{sym, _∙_}
 use Rattle.printer.specs.Terminators.{carriage-return, guarded}
-use Rattle.printer.specs.Steps.{quiet}
 use Rattle.carriage.proofs.Rooms.{rows-on-page}
 use Rattle.carriage.proofs.terminators.carriage_return.Statement.{statement}
 use Rattle.carriage.proofs.terminators.carriage_return.Tie as tie

@@ -1,7 +1,7 @@
+-- `terminators::form_feed` meets its contract.
 use borrow.Author.Needs.{needs}
-use mathlib.Core.Path.{ap, sym, _∙_}
+use mathlib.Core.Path.{sym, _∙_}
 use Rattle.printer.specs.Terminators.{form-feed, guarded}
-use Rattle.printer.specs.Steps.{finished}
 use Rattle.carriage.proofs.Rooms.{rows-on-page}
 use Rattle.carriage.proofs.terminators.form_feed.Statement.{statement}
 use Rattle.carriage.proofs.terminators.form_feed.Tie as tie

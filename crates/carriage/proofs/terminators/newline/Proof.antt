@@ -1,14 +1,14 @@
+-- `terminators::newline` meets its contract.
 use borrow.Author.Needs.{needs}
 use Prim.Native.Nat.{ℕ}
 use mathlib.Core.Bool.{cond, false, true}
 use mathlib.Core.Path.{_≡_, ap, sym, _∙_}
-use native.Mathlib.Omega.{arith}
 use borrow.Author.Tests.{not-false, not-true}
 use Rattle.sheet.specs.declared.Row.{Row}
 use Rattle.sheet.specs.Edition.{lp2}
 use Rattle.sheet.specs.Form.{fits, lower, rows-per-line}
 use Rattle.printer.specs.Terminators.{guarded, newline, strike}
-use Rattle.printer.specs.Steps.{finished, quiet}
+use Rattle.printer.specs.Steps.{quiet}
 use Rattle.printer.specs.Given.{machine}
 use Rattle.carriage.proofs.Rooms.{row-bound, rows-on-page}
 use Rattle.carriage.proofs.terminators.newline.Statement.{statement}

@@ -1,3 +1,4 @@
+-- `terminators::tab_to` meets its contract.
 use borrow.Author.Needs.{needs}
 use mathlib.Core.Path.{ap, subst, _∙_}
 use Rattle.sheet.specs.declared.Row.{Row}

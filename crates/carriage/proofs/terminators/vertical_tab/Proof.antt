@@ -1,3 +1,4 @@
+-- `terminators::vertical_tab` meets its contract.
 use borrow.Author.Needs.{needs}
 use mathlib.Core.Path.{sym, _∙_}
 use native.Mathlib.Omega.{arith}

@@ -1,7 +1,6 @@
 -- `calls::clocktoad_close` meets its contract.
 use borrow.Author.Needs.{needs}
-use mathlib.Core.Bool.{true, false}
-use mathlib.Core.List.{List}
+use mathlib.Core.Bool.{true}
 use mathlib.Core.Path.{_≡_, ap, sym, _∙_}
 use borrow.Author.Tests.{not-false, not-true}
 use Rattle.sheet.specs.Edition.{lp2}

@@ -1,6 +1,6 @@
 -- `calls::clocktoad_open` meets its contract.
 use borrow.Author.Needs.{needs}
-use mathlib.Core.Path.{_≡_, refl, ap, _∙_}
+use mathlib.Core.Path.{refl, ap, _∙_}
 use Rattle.sheet.specs.Edition.{lp2}
 use Rattle.printer.specs.Machine.{shut}
 use Rattle.clocktoad.specs.Calls.{opening-words}

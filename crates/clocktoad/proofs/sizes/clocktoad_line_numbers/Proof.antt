@@ -1,5 +1,4 @@
 -- `sizes::clocktoad_line_numbers` meets its contract.
-use borrow.Author.Needs.{needs}
 use mathlib.Core.Path.{refl}
 use Rattle.sheet.specs.Edition.{lp2}
 use Rattle.clocktoad.proofs.sizes.clocktoad_line_numbers.Statement.{statement}

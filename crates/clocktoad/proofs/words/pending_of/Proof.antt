@@ -1,5 +1,4 @@
 -- `words::pending_of` meets its contract.
-use borrow.Author.Needs.{needs}
 use borrow.Author.Tests.{ne-eqb}
 use Rattle.clocktoad.specs.Words.{pending-of}
 use Rattle.clocktoad.proofs.words.pending_of.Statement.{statement}

@@ -1,5 +1,4 @@
 -- `words::pitch_of` meets its contract.
-use borrow.Author.Needs.{needs}
 use borrow.Author.Tests.{eq-eqb, ne-eqb}
 use Rattle.clocktoad.specs.Words.{pitch-of}
 use Rattle.clocktoad.proofs.words.pitch_of.Statement.{statement}

@@ -1,5 +1,4 @@
 -- `words::truth` meets its contract.
-use borrow.Author.Needs.{needs}
 use Rattle.clocktoad.specs.Words.{truth}
 use Rattle.clocktoad.proofs.words.truth.Statement.{statement}
 use Rattle.clocktoad.proofs.words.truth.Tie as tie

@@ -1,3 +1,4 @@
+-- `downloads::loaded` meets its contract.
 use borrow.Author.Needs.{needs}
 use Rattle.commands.proofs.downloads.loaded.Statement.{statement}
 use Rattle.commands.proofs.downloads.loaded.Tie as tie

@@ -1,3 +1,4 @@
+-- `downloads::out_of_range` meets its contract.
 use borrow.Author.Needs.{needs}
 use borrow.Author.Tests.{eq-eqb, le-ltb, lt-ltb, ne-eqb}
 use Rattle.printer.specs.Downloads.{out-of-range}

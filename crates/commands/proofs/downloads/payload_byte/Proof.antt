@@ -1,3 +1,4 @@
+-- `downloads::payload_byte` meets its contract.
 use borrow.Author.Needs.{needs}
 use mathlib.Core.Path.{_∙_}
 use borrow.Author.Tests.{le-ltb, lt-ltb}

@@ -1,3 +1,4 @@
+-- `downloads::replace` meets its contract.
 use borrow.Author.Needs.{needs}
 use Rattle.commands.proofs.Copying.{part-copied}
 use Rattle.commands.proofs.downloads.replace.Statement.{statement}

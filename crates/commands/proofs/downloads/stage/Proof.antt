@@ -1,3 +1,4 @@
+-- `downloads::stage` meets its contract.
 use borrow.Author.Needs.{needs}
 use mathlib.Core.Path.{sym}
 use lib.Seq.{set-out}

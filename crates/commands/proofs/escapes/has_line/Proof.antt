@@ -1,4 +1,4 @@
-use borrow.Author.Needs.{needs}
+-- `escapes::has_line` meets its contract.
 use borrow.Author.Tests.{le-leb, lt-leb}
 use Rattle.sheet.specs.Form.{has-line}
 use Rattle.commands.proofs.escapes.has_line.Statement.{statement}

@@ -1,3 +1,4 @@
+-- `escapes::in_turn` meets its contract.
 use borrow.Author.Needs.{needs}
 use Rattle.printer.specs.Escapes.{in-turn}
 use Rattle.commands.proofs.escapes.in_turn.Statement.{statement}

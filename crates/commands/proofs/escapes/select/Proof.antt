@@ -1,3 +1,4 @@
+-- `escapes::select` meets its contract.
 use borrow.Author.Needs.{needs}
 use borrow.Author.Tests.{ne-eqb}
 use Rattle.printer.specs.Escapes.{select}

@@ -1,3 +1,4 @@
+-- `escapes::tab` meets its contract.
 use borrow.Author.Needs.{needs}
 use Rattle.printer.specs.Escapes.{tab}
 use Rattle.commands.proofs.escapes.tab.Statement.{statement}

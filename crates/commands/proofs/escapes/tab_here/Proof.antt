@@ -1,3 +1,4 @@
+-- `escapes::tab_here` meets its contract.
 use borrow.Author.Needs.{needs}
 use native.Mathlib.Omega.{arith}
 use Rattle.sheet.specs.Form.{line-of}

@@ -1,3 +1,4 @@
+-- `escapes::tab_item` meets its contract.
 use borrow.Author.Needs.{needs}
 use mathlib.Core.Bool.{and-eq-true-iff}
 use mathlib.Core.Path.{sym, _∙_}

@@ -1,3 +1,4 @@
+-- `entering::enter_glyph` meets its contract.
 use Prim.Native.Nat.{_+_, _≤_}
 use mathlib.Core.Path.{_∙_}
 use native.Mathlib.Omega.{arith}

@@ -1,3 +1,4 @@
+-- `calls::answer_to` meets its contract.
 use borrow.Author.Needs.{needs}
 use Rattle.job.proofs.calls.answer_to.Statement.{statement}
 use Rattle.job.proofs.calls.answer_to.Tie as tie

@@ -1,3 +1,4 @@
+-- `calls::new_printer` meets its contract.
 use borrow.Author.Needs.{needs}
 use Rattle.printer.specs.Tabs.{no-tabs}
 use Rattle.job.proofs.calls.new_printer.Statement.{statement}

@@ -1,5 +1,5 @@
+-- `calls::offer` meets its contract.
 use borrow.Author.Needs.{needs}
-use mathlib.Core.Path.{sym}
 use native.Mathlib.Omega.{arith}
 use Rattle.printer.specs.Given.{machine}
 use Rattle.job.proofs.Offering.{none-offered, none-taken, rest-fits, rest-offered}

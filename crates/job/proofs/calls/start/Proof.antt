@@ -1,3 +1,4 @@
+-- `calls::start` meets its contract.
 use borrow.Author.Needs.{needs}
 use mathlib.Core.Path.{_∙_}
 use Rattle.sheet.specs.Edition.{lp2}

@@ -1,3 +1,4 @@
+-- `calls::unopened` meets its contract.
 use borrow.Author.Needs.{needs}
 use Rattle.job.proofs.calls.unopened.Statement.{statement}
 use Rattle.job.proofs.calls.unopened.Tie as tie

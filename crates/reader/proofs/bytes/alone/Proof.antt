@@ -1,3 +1,4 @@
+-- `bytes::alone` meets its contract.
 use borrow.Author.Needs.{needs}
 use mathlib.Core.Path.{_∙_}
 use Rattle.printer.specs.Alone.{alone}

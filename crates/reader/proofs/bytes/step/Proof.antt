@@ -1,3 +1,4 @@
+-- `bytes::step` meets its contract.
 use borrow.Author.Needs.{needs}
 use Rattle.printer.specs.Bytes.{step}
 use Rattle.reader.proofs.bytes.step.Statement.{statement}

@@ -1,3 +1,4 @@
+-- `bytes::text_byte` meets its contract.
 use borrow.Author.Needs.{needs}
 use mathlib.Core.Logic.{inl, inr}
 use mathlib.Core.Path.{_≡_, sym, _∙_}

@@ -1,3 +1,4 @@
+-- `bytes::text_escape` meets its contract.
 use borrow.Author.Needs.{needs}
 use mathlib.Core.Path.{_∙_}
 use borrow.Author.Tests.{ne-eqb}

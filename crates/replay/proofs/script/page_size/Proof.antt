@@ -1,6 +1,6 @@
 -- `script::page_size` meets its contract.
 use Prim.Native.Nat.{ℕ, _*_}
-use mathlib.Core.Path.{sym, ap, _∙_}
+use mathlib.Core.Path.{ap}
 use borrow.Author.Needs.{needs}
 use borrow.Author.Tests.{le-ltb, lt-ltb, not-false, not-true}
 use Rattle.sheet.specs.Edition.{lp2}

@@ -2,15 +2,13 @@
 use borrow.Author.Needs.{needs}
 use Prim.Native.Nat.{ℕ, _+_, _-_, _≤_, _<_}
 use mathlib.Core.List.{List}
-use mathlib.Core.Path.{_≡_, refl, subst, sym, _∙_}
+use mathlib.Core.Path.{_≡_, refl, _∙_}
 use native.Mathlib.Omega.{arith}
 use lib.ListN.{length}
 use Rattle.printer.specs.declared.Load.{Load}
 use Rattle.printer.specs.declared.Printer.{Printer}
 use Rattle.printer.specs.Given.{machine}
-use Rattle.printer.specs.Machine.{Machine}
 use Rattle.protocol.specs.Calls.{limit}
-use Rattle.runs.specs.declared.Ran.{Ran}
 use Rattle.runs.specs.Leads.{Leads, loading}
 use Rattle.runs.proofs.Staged.{begins, staged-on}
 use Rattle.runs.proofs.payload.payload_run.Statement.{statement}

@@ -1,5 +1,4 @@
 -- `plots::is_column` meets its contract.
-use borrow.Author.Needs.{needs}
 use borrow.Author.Tests.{le-ltb, lt-ltb}
 use Rattle.runs.proofs.plots.is_column.Statement.{statement}
 use Rattle.runs.proofs.plots.is_column.Tie as tie

@@ -1,23 +1,19 @@
 -- `text::characters` meets its contract.
 use borrow.Author.Needs.{needs}
 use Prim.Native.Nat.{ℕ, _+_, _-_, _≤_, _<_}
-use mathlib.Core.Bool.{true, false, cond, _&&_}
+use mathlib.Core.Bool.{cond}
 use mathlib.Core.List.{List}
-use mathlib.Core.Path.{_≡_, refl, ap, subst, sym, _∙_}
+use mathlib.Core.Path.{_≡_, refl, sym, _∙_}
 use native.Mathlib.Omega.{arith}
-use borrow.Author.Tests.{leb-true, not-false, not-true}
-use lib.Dec.{leb}
-use lib.ListN.{getD, length}
-use Rattle.sheet.specs.Edition.{lp2}
-use Rattle.sheet.proofs.Editions.{lp2-proper}
+use borrow.Author.Tests.{not-false}
+use lib.ListN.{length}
 use Rattle.glyph.specs.Entering.{cell}
 use Rattle.glyph.proofs.Cells.{cell-bounds}
 use Rattle.printer.specs.declared.Printer.{Printer}
-use Rattle.printer.specs.declared.Style.{Style}
 use Rattle.printer.specs.Given.{machine}
 use Rattle.protocol.specs.Calls.{limit}
 use Rattle.runs.specs.Leads.{Leads, Typing}
-use Rattle.runs.proofs.Leading.{leads-nowhere, leads-on}
+use Rattle.runs.proofs.Leading.{leads-nowhere}
 use Rattle.runs.proofs.Typed.{entering, roomy, stays-on, typed-on}
 use Rattle.runs.proofs.text.characters.Statement.{statement}
 use Rattle.runs.proofs.text.characters.Tie as tie

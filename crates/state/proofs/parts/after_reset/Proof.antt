@@ -1,3 +1,4 @@
+-- `parts::after_reset` meets its contract.
 use borrow.Author.Needs.{needs}
 use Rattle.printer.specs.Escapes.{after-reset, clear-tabs}
 use Rattle.state.proofs.parts.after_reset.Statement.{statement}

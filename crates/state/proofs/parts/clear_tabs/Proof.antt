@@ -1,3 +1,4 @@
+-- `parts::clear_tabs` meets its contract.
 use borrow.Author.Needs.{needs}
 use Rattle.printer.specs.Escapes.{clear-tabs}
 use Rattle.printer.specs.Tabs.{no-tabs}

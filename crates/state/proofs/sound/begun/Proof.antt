@@ -1,3 +1,4 @@
+-- `sound::begun` meets its contract.
 use borrow.Author.Needs.{needs}
 use Rattle.state.proofs.sound.begun.Statement.{statement}
 use Rattle.state.proofs.sound.begun.Tie as tie

@@ -1,3 +1,4 @@
+-- `sound::closing` meets its contract.
 use borrow.Author.Needs.{needs}
 use borrow.Author.Tests.{not-false, not-true}
 use Rattle.printer.specs.Closing.{closing, close-command, close-line}

@@ -1,3 +1,4 @@
+-- `sound::form_sound` meets its contract.
 use borrow.Author.Needs.{needs}
 use Rattle.printer.specs.Sound.{form-sound}
 use Rattle.state.proofs.sound.form_sound.Statement.{statement}

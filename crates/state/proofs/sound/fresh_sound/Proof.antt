@@ -1,4 +1,4 @@
-use borrow.Author.Needs.{needs}
+-- `sound::fresh_sound` meets its contract.
 use borrow.Author.Tests.{eq-eqb, ne-eqb}
 use Rattle.printer.specs.Sound.{fresh-sound}
 use Rattle.state.proofs.sound.fresh_sound.Statement.{statement}

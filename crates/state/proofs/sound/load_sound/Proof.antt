@@ -1,3 +1,4 @@
+-- `sound::load_sound` meets its contract.
 use borrow.Author.Needs.{needs}
 use Rattle.state.proofs.sound.load_sound.Statement.{statement}
 use Rattle.state.proofs.sound.load_sound.Tie as tie

@@ -1,3 +1,4 @@
+-- `sound::place_sound` meets its contract.
 use borrow.Author.Needs.{needs}
 use Rattle.state.proofs.sound.place_sound.Statement.{statement}
 use Rattle.state.proofs.sound.place_sound.Tie as tie

@@ -1,3 +1,4 @@
+-- `sound::plot_sound` meets its contract.
 use borrow.Author.Needs.{needs}
 use Rattle.printer.specs.Sound.{plot-sound}
 use Rattle.state.proofs.sound.plot_sound.Statement.{statement}

@@ -1,3 +1,4 @@
+-- `sound::sound` meets its contract.
 use borrow.Author.Needs.{needs}
 use mathlib.Core.Bool.{and-eq-true-iff, true}
 use mathlib.Core.Path.{_≡_, sym, _∙_}
