@@ -4,29 +4,26 @@ use mathlib.Core.List.{List, []}
 use mathlib.Core.Path.{_≡_, ap, sym, _∙_}
 use native.Mathlib.Omega.{arith}
 use lib.ListN.{drop, drop-of-length-le, length, length-drop, take}
-use lib.Seq.{take-all}
 use Rattle.sheet.specs.Edition.{lp2}
 use Rattle.printer.specs.Machine.{Machine}
 use Rattle.protocol.specs.Calls.{Feeding, feeding}
 use Rattle.protocol.specs.Given.{more}
 use Rattle.protocol.proofs.Answering.{feeding-counts}
+use Rattle.job.proofs.Underway.{left-over}
 
 module _ (font piece : List ℕ) (taken : ℕ) (m : Machine) (f : Feeding) where
   -- all that is left from a count on
   abbrev rest : List ℕ
   rest = take (length piece - taken) (drop taken piece)
 
-  rest-drop : rest ≡ drop taken piece
-  rest-drop = take-all (length piece - taken) (drop taken piece) (simp length-drop (omega arith))
-
   pub rest-fits : taken ≤ length piece → f ≡ feeding lp2 font rest m → taken + f .taken ≤ length piece
   rest-fits l q =
       let n : f .taken ≤ length rest = rw q (feeding-counts lp2 font rest m .1) in
-      let k : length rest ≡ length piece - taken = ap length rest-drop ∙ length-drop taken piece in
+      let k : length rest ≡ length piece - taken = ap length (left-over piece taken) ∙ length-drop taken piece in
       omega arith
 
   pub rest-offered : f ≡ feeding lp2 font rest m → more taken f ≡ more taken (feeding lp2 font (drop taken piece) m)
-  rest-offered q = ap (more taken) (q ∙ ap (λ (bs : List ℕ). feeding lp2 font bs m) rest-drop)
+  rest-offered q = ap (more taken) (q ∙ ap (λ (bs : List ℕ). feeding lp2 font bs m) (left-over piece taken))
 
   -- past the end of the piece nothing is left
   pub none-taken : f ≡ feeding lp2 font [] m → f .taken ≤ 0

@@ -35,8 +35,8 @@ pub writable : {p : Printer} {page line staging store font : List ℕ} → Ready
 writable {p} {page} {line} {staging} {store} {font} h f = let r : Room p page line staging store font = ready-room h f in record { column = r .column; line = r .line; store = r .store; resident = r .resident }
 
 -- what is left of a piece, as a part of it
-left-over : (piece : List ℕ) (i : ℕ) → i ≤ length piece → take (length piece - i) (drop i piece) ≡ drop i piece
-left-over piece i l = take-all (length piece - i) (drop i piece) (simp length-drop (omega arith))
+pub left-over : (piece : List ℕ) (i : ℕ) → take (length piece - i) (drop i piece) ≡ drop i piece
+left-over piece i = take-all (length piece - i) (drop i piece) (simp length-drop (omega arith))
 
 more-more : (i t : ℕ) (f : Feeding) → more i (more t f) ≡ more (i + t) f
 more-more i t f = let e : i + (t + f .taken) ≡ i + t + f .taken = omega arith in ap (λ (n : ℕ). record { answer = f .answer; taken = n; machine = f .machine }) e
@@ -45,7 +45,7 @@ module _ {font piece : List ℕ} {m₀ m : Machine} {i : ℕ} (h : Underway font
   -- a run more
   pub after-run : {t : ℕ} {n : Machine} → Leads font (take (length piece - i) (drop i piece)) t m n → Underway font piece m₀ n (i + t)
   after-run {t} {n} r =
-      let l : Leads font (drop i piece) t m n = subst (λ (bs : List ℕ). Leads font bs t m n) (left-over piece i (h .within)) r in
+      let l : Leads font (drop i piece) t m n = subst (λ (bs : List ℕ). Leads font bs t m n) (left-over piece i) r in
       record {
         ready = l .ready (h .ready);
         within = let k = l .within in omega (arith, h .within, length-drop i piece);
