@@ -2,16 +2,15 @@
 use Prim.Native.Nat.{ℕ, _+_, _*_, _≤_}
 use mathlib.Core.Bool.{true}
 use mathlib.Core.List.{List}
-use mathlib.Core.Path.{_≡_, ap}
+use mathlib.Core.Path.{_≡_}
 use native.Mathlib.Nat.{mul-le-mul-right}
 use native.Mathlib.Omega.{arith}
 use borrow.Author.Tests.{leb-true}
-use lib.ListN.{length, replicate}
+use lib.ListN.{length}
 use Rattle.sheet.specs.Edition.{lp2}
-use Rattle.sheet.specs.Form.{empty-line, fits, form-rows, line-of, page-bytes}
+use Rattle.sheet.specs.Form.{fits, form-rows, line-of, page-bytes}
 use Rattle.sheet.proofs.Units.{form-rows-most, line-inside}
 use Rattle.printer.specs.declared.Printer.{Printer}
-use Rattle.printer.specs.Machine.{empty-store}
 use Rattle.printer.specs.Room.{Strikable}
 
 module _ {p : Printer} {page line : List ℕ} (h : Strikable p page line) (q : fits (p .form) (p .head .row) ≡ true) where
@@ -26,12 +25,3 @@ module _ {p : Printer} {page line : List ℕ} (h : Strikable p page line) (q : f
 
   pub line-bound : line-of (p .form) (p .head .row) .0 ≤ 99
   line-bound = omega (arith, line-inside (p .form) (p .head .row) q, h .lines)
-
--- a store of its length, zeroed
-pub emptied : (line : List ℕ) → length line ≡ 2200 → replicate (length line) 0 ≡ empty-line lp2
-unfolding empty-line lp2
-emptied line q = ap (λ (n : ℕ). replicate n 0) q
-
-pub blanked : (store : List ℕ) → length store ≡ 2048 → replicate (length store) 0 ≡ empty-store
-unfolding empty-store
-blanked store q = ap (λ (n : ℕ). replicate n 0) q

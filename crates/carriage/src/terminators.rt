@@ -26,7 +26,7 @@ use state::parts::fresh;
 use state::parts::guard;
 use state::parts::quiet;
 use state::tabs::tabbed;
-use striking::strike::strike;
+use striking::strike;
 
 // Strikes the line in progress at the current row; the head goes to a fresh line at row `next`.
 fn line_done(p: Printer, next: Row, page: &mut [u8], line: &mut [u16]) -> Stepped

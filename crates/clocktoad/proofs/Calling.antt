@@ -17,7 +17,7 @@ use Rattle.protocol.specs.declared.Lent.the-variants.{Page, LineStore, Staging,
 use Rattle.protocol.specs.Answers.{close-place, close-report, lent-number, refusal, report}
 use Rattle.protocol.specs.Calls.{Feeding, feeding, opening}
 use Rattle.clocktoad.specs.Calls.{Called, Closed, called, close-call, closing-words, feed-call, feeding-report, feeding-words, open-call, opening-words}
-use Rattle.clocktoad.specs.Words.{is-state, state-of, state-words}
+use Rattle.words.specs.Words.{is-state, state-of, state-words}
 
 module _ (lines spacing : ℕ) (font state page line staging store : List ℕ) where
   abbrev at-open : Called
@@ -27,7 +27,7 @@ module _ (lines spacing : ℕ) (font state page line staging store : List ℕ) w
   unfolding open-call
   open-21 n = simp (ne-eqb (length state) 20 n)
 
-  pub opens : length state ≡ 20 → opening-words (opening lp2 lines spacing font (machine (shut lp2) page line staging store)) ≡ at-open
+  pub opens : length state ≡ 20 → opening-words (opening lp2 lines spacing font (machine shut page line staging store)) ≡ at-open
   unfolding open-call
   opens l = simp (eq-eqb (length state) 20 l)
 

@@ -1,5 +1,2 @@
--- What is true of states kept as words, and of the calls over them.
-pub mod Ranges
-pub mod Kept
-pub mod Writing
+-- What is true of the calls over states kept as words.
 pub mod Calling

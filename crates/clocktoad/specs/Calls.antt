@@ -1,19 +1,18 @@
 -- The calls of another language: document 01's opening, feeding and closing over words and lent memory. House: 21 and 22 are a state and a report of the
 -- wrong length, tested before all else; what is no state at all is answered 10.
 use Prim.Native.Nat.{ℕ}
-use mathlib.Core.Bool.{cond, _&&_}
+use mathlib.Core.Bool.{cond}
 use mathlib.Core.List.{List, [], _∷_}
 use lib.Dec.{eqb}
 use lib.ListN.{length}
 use Rattle.sheet.specs.Edition.{lp2}
-use Rattle.sheet.specs.Form.{lines-allowed, page-bytes, spacing-allowed}
 use Rattle.printer.specs.declared.Closing.{Closing}
 use Rattle.printer.specs.Closing.{closing}
 use Rattle.printer.specs.Given.{machine}
 use Rattle.printer.specs.Machine.{shut}
 use Rattle.protocol.specs.Answers.{close-place, close-report, noted-number, noted-place, refusal, report}
 use Rattle.protocol.specs.Calls.{Feeding, Opening, feeding, opening}
-use Rattle.clocktoad.specs.Words.{is-state, state-of, state-words}
+use Rattle.words.specs.Words.{is-state, state-of, state-words}
 
 -- what a call gives back: its number, and all that it was lent as it leaves it
 pub record Called : Type 0 where
@@ -37,7 +36,7 @@ opening-words o =
 unfoldable pub open-call : ℕ → ℕ → List ℕ → List ℕ → List ℕ → List ℕ → List ℕ → List ℕ → Called
 open-call lines spacing font state page line staging store =
     cond (eqb (length state) 20)
-    (opening-words (opening lp2 lines spacing font (machine (shut lp2) page line staging store)))
+    (opening-words (opening lp2 lines spacing font (machine shut page line staging store)))
     (called 21 state page line staging store [])
 
 -- bytes taken, the note's number and place (0 where there is none), 0
@@ -82,7 +81,3 @@ close-call state told =
     (cond (is-state state) (closing-words (closing lp2 (state-of state)) told) (record { number = 10; report = told }))
     (record { number = 22; report = told }))
     (record { number = 21; report = told })
-
--- the bytes of a page, 0 where there is no such form
-unfoldable pub page-size : ℕ → ℕ → ℕ
-page-size lines spacing = cond (lines-allowed lp2 lines && spacing-allowed spacing) (page-bytes lp2 (record { lines = lines; spacing = spacing })) 0

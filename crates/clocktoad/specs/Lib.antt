@@ -1,3 +1,2 @@
--- The boundary: a state kept as words, and what the calls of another language give back.
-pub mod Words
+-- The boundary: what the calls of another language give back.
 pub mod Calls

@@ -5,10 +5,7 @@ ghost use mathlib.Core.List.{[], _∷_};
 ghost use lib.ListN.{length};
 ghost use Prim.Native.Nat.{_≤_};
 ghost use Rattle.clocktoad.specs.Calls.{called, close-call, feed-call, open-call};
-ghost use Rattle.clocktoad.specs.Words.{is-state};
-use crate::words::is_state;
-use crate::words::put;
-use crate::words::state_of;
+ghost use Rattle.words.specs.Words.{is-state};
 use job::calls::close;
 use job::calls::feed;
 use job::calls::open;
@@ -18,6 +15,9 @@ use protocol::numbers::close_place;
 use protocol::numbers::noted_number;
 use protocol::numbers::noted_place;
 use protocol::numbers::refusal;
+use words::is_state;
+use words::put;
+use words::state_of;
 
 // Writes the four words of a report.
 fn tell(report: &mut [u64], taken: usize, number: u64, place: u64)

@@ -1,11 +1,8 @@
 // The sizes of what a caller lends.
 ghost use mathlib.Core.Path.{_≡_};
 ghost use Rattle.sheet.specs.Edition.{lp2};
-ghost use Rattle.clocktoad.specs.Calls.{page-size};
-use sheet::Form;
-use sheet::sizes::lines_allowed;
-use sheet::sizes::page_bytes;
-use sheet::sizes::spacing_allowed;
+ghost use Rattle.sheet.specs.Form.{page-size};
+use sheet::sizes::page_size;
 
 #[no_mangle]
 pub extern "C" fn clocktoad_state_words() -> usize
@@ -24,16 +21,9 @@ pub extern "C" fn clocktoad_report_words() -> usize
 // The bytes of a page, 0 where there is no such form.
 #[no_mangle]
 pub extern "C" fn clocktoad_page_bytes(lines: usize, spacing: usize) -> usize
-    ensures { λ r. ⌜ r ≡ page-size lines spacing ⌝ }
+    ensures { λ r. ⌜ r ≡ page-size lp2 lines spacing ⌝ }
 {
-    if !lines_allowed(lines) {
-        return 0;
-    }
-    if !spacing_allowed(spacing) {
-        return 0;
-    }
-    let form = Form { lines, spacing };
-    page_bytes(form)
+    page_size(lines, spacing)
 }
 
 #[no_mangle]

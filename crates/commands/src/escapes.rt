@@ -14,6 +14,8 @@ use printer::Stepped;
 use sheet::Form;
 use sheet::Line;
 use sheet::Pitch;
+use sheet::clearing::blank;
+use sheet::clearing::empty;
 use sheet::sizes::line_of;
 use state::parts::after_reset;
 use state::parts::begin_plot;
@@ -24,8 +26,6 @@ use state::parts::set_elongated;
 use state::parts::set_pitch;
 use state::parts::set_underscore;
 use state::tabs::with_tab;
-use striking::strike::blank;
-use striking::strike::empty;
 
 // The tab of a line set or cleared.
 fn tab(p: Printer, on: bool, line: Line) -> Printer

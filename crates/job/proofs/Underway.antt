@@ -11,9 +11,9 @@ use Rattle.printer.specs.declared.Printer.{Printer}
 use Rattle.printer.specs.Bytes.{step}
 use Rattle.printer.specs.Given.{machine}
 use Rattle.printer.specs.Machine.{Machine}
-use Rattle.printer.specs.Room.{Room, Writable}
+use Rattle.printer.specs.Room.{Ready, Room, Writable}
 use Rattle.printer.specs.Steps.{Step}
-use Rattle.printer.proofs.Ready.{Allowed, Ready}
+use Rattle.printer.proofs.Ready.{Allowed}
 use Rattle.printer.proofs.StaysSound.{step-fine}
 use Rattle.protocol.specs.declared.Answer.the-variants.{Done, JobFull}
 use Rattle.protocol.specs.Calls.{Feeding, limit, take-bytes}

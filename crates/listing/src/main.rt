@@ -12,7 +12,7 @@ use report::say_note;
 use report::say_number;
 use report::unread;
 use report::unwritten;
-use striking::strike::blank;
+use sheet::clearing::blank;
 
 // How a listing goes on.
 enum Next {

@@ -17,7 +17,7 @@ use Rattle.sheet.proofs.Editions.{Proper}
 use Rattle.sheet.proofs.Struck.{length-struck, struck-black, struck-stays-black}
 use Rattle.printer.specs.Machine.{Machine}
 use Rattle.printer.specs.Strikes.{PutBy, Strike, in-progress, strike-all, strikes, strikes-of}
-use Rattle.printer.proofs.Ready.{Ready}
+use Rattle.printer.specs.Room.{Ready}
 
 pub strike-all-append : (e : Edition) (xs ys : List Strike) (page : List ℕ) → strike-all e (xs ++ ys) page ≡ strike-all e ys (strike-all e xs page)
 unfolding strike-all

@@ -1,29 +1,16 @@
--- A machine that is ready for a byte: its state is sound and its memory has its lengths. A step is fine that ends in one and is no guard.
+-- A step is fine that ends in a machine that is ready for a byte, and is no guard.
 use Prim.Native.Nat.{ℕ}
 use mathlib.Core.Bool.{Bool, true, false, cond}
 use mathlib.Core.List.{List}
-use mathlib.Core.Path.{_≡_, refl}
-use lib.ListN.{length, length-replicate}
-use Rattle.sheet.specs.declared.Form.{Form}
+use mathlib.Core.Path.{_≡_, ap, refl}
+use lib.ListN.{length, length-replicate, replicate}
 use Rattle.sheet.specs.Edition.{Edition}
-use Rattle.sheet.specs.Form.{page-bytes}
 use Rattle.printer.specs.declared.Event.{Event}
 use Rattle.printer.specs.declared.Event.the-variants.{Quiet, Finished, Noted, Guard}
 use Rattle.printer.specs.declared.Fault.{Fault}
 use Rattle.printer.specs.Machine.{Machine, empty-store}
+use Rattle.printer.specs.Room.{Ready}
 use Rattle.printer.specs.Steps.{Step, finished, noted, quiet}
-use Rattle.printer.proofs.Soundness.{Sound}
-
--- the lengths of what is lent for a form
-pub record Sized (e : Edition) (f : Form) (pg ln sg st : List ℕ) : Type 0 where
-  pub page : length pg ≡ page-bytes e f
-  pub line : length ln ≡ e .columns
-  pub staging : length sg ≡ 2048
-  pub store : length st ≡ 2048
-
-pub record Ready (e : Edition) (m : Machine) : Type 0 where
-  pub printer : Sound e (m .printer)
-  pub memory : Sized e (m .printer .form) (m .page) (m .line) (m .staging) (m .store)
 
 -- no guard
 abbrev pub Allowed : Event → Type 0
@@ -56,6 +43,11 @@ module _ {e : Edition} where
   fine-cond false s u h k = k
 
 pub ruleset fine = (fine-cond, fine-quiet, fine-finished, fine-noted)
+
+-- a store of its length that is all 0 is an empty one
+pub store-emptied : (store : List ℕ) → length store ≡ 2048 → replicate (length store) 0 ≡ empty-store
+unfolding empty-store
+store-emptied store q = ap (λ (n : ℕ). replicate n 0) q
 
 pub length-empty-store : length empty-store ≡ 2048
 unfolding empty-store

@@ -15,7 +15,7 @@ use Rattle.printer.specs.declared.NextTab.the-variants.{Tabbed, Untabbed
 use Rattle.printer.specs.declared.TabSet.{TabSet}
 use Rattle.printer.specs.Tabs.{line-tabs, no-tabs, with-tab, word-tabs}
 use Rattle.printer.specs.Terminators.{first-tab}
-use Rattle.printer.proofs.Soundness.{SoundTabs}
+use Rattle.printer.specs.Facts.{SoundTabs}
 use Rattle.printer.proofs.TabBits.{put-tab}
 
 getD-clear : (n i : ℕ) → getD (replicate n false) i false ≡ false

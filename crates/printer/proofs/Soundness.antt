@@ -17,52 +17,9 @@ use Rattle.printer.specs.declared.Head.{Head}
 use Rattle.printer.specs.declared.Pending.{Pending}
 use Rattle.printer.specs.declared.Pending.the-variants.{Nothing, Escape, Tabs, Reset, Select, SelectLow, CountHigh, CountLow, AddressHigh, AddressLow, Payload}
 use Rattle.printer.specs.declared.Printer.{Printer}
+use Rattle.printer.specs.Facts.{Sound, SoundForm, SoundHead, SoundLoad, SoundPlace, SoundPlot, SoundTabs}
 use Rattle.printer.specs.Sound.{begun, form-sound, fresh-sound, load-sound, at-most-escape, place-sound, plot-sound, sound, tabs-sound, untabbed}
 use Rattle.printer.specs.Tabs.{line-tabs}
-
-pub record SoundForm (e : Edition) (f : Form) : Type 0 where
-  pub some : 1 ≤ f .lines
-  pub most : f .lines ≤ e .longest
-  pub spacing : spacing-allowed (f .spacing) ≡ true
-
--- a head on a form, on a line of some columns
-pub record SoundHead (f : Form) (width : ℕ) (h : Head) : Type 0 where
-  pub row : h .row .0 + 9 ≤ form-rows f
-  pub column : h .column ≤ width
-  pub fresh : T (h .fresh) → (h .column ≡ 0) × (h .plotted ≡ false)
-
--- each line with a tab is a line of the form
-pub record SoundTabs (lines : ℕ) (tabs : List Bool) : Type 0 where
-  pub inside : (i : ℕ) → T (getD tabs i false) → i < lines
-
-abbrev pub SoundLoad : Pending → Type 0
-SoundLoad Nothing = Unit {0}
-SoundLoad (Escape place) = Unit {0}
-SoundLoad (Tabs place) = Unit {0}
-SoundLoad (Reset place) = Unit {0}
-SoundLoad (Select place) = Unit {0}
-SoundLoad (SelectLow place high) = Unit {0}
-SoundLoad (CountHigh place) = Unit {0}
-SoundLoad (CountLow place high) = Unit {0}
-SoundLoad (AddressHigh place count) = Unit {0}
-SoundLoad (AddressLow place count high) = Unit {0}
-SoundLoad (Payload place load) = load .taken ≤ load .count
-
-abbrev pub SoundPlace : ℕ → Begun → Type 0
-SoundPlace job Nowhere = Unit {0}
-SoundPlace job (At place) = place < job
-
-abbrev pub SoundPlot : Head → Pending → Type 0
-SoundPlot h q = T (h .plotting) → (h .plotted ≡ true) × (at-most-escape q ≡ true)
-
--- the facts of a sound state
-pub record Sound (e : Edition) (p : Printer) : Type 0 where
-  pub form : SoundForm e (p .form)
-  pub head : SoundHead (p .form) (e .width (p .style .pitch)) (p .head)
-  pub tabs : SoundTabs (p .form .lines) (line-tabs (p .tabs))
-  pub load : SoundLoad (p .pending)
-  pub place : SoundPlace (p .job) (begun (p .pending))
-  pub plot : SoundPlot (p .head) (p .pending)
 
 -- Each test says its fact.
 form-facts : (e : Edition) (f : Form) → form-sound e f ≡ true → SoundForm e f

@@ -19,6 +19,7 @@ use Rattle.sheet.proofs.Struck.{length-struck}
 use Rattle.sheet.proofs.Units.{length-blank-page, length-empty-line, line-fits, line-inside, top-fits}
 use Rattle.glyph.specs.Entering.{or-in}
 use Rattle.glyph.proofs.Lengths.{length-enter, length-or-in}
+use Rattle.glyph.proofs.WellFormed.{or-parts}
 use Rattle.printer.specs.declared.Begun.{Begun}
 use Rattle.printer.specs.declared.Begun.the-variants.{Nowhere, At}
 use Rattle.printer.specs.declared.Event.{Event}
@@ -40,23 +41,20 @@ use Rattle.printer.specs.Sound.{begun, at-most-escape}
 use Rattle.printer.specs.Steps.{Step, tell, tell-step}
 use Rattle.printer.specs.Tabs.{line-tabs}
 use Rattle.printer.specs.Terminators.{carriage-return, current-line, form-feed, guarded, newline, strike, tab-to, vertical-tab}
-use Rattle.printer.proofs.Ready.{Fine, Ready, fine, fine-cond, fine-finished, fine-noted, fine-quiet, fine-test, length-empty-store}
+use Rattle.printer.specs.Room.{Ready}
+use Rattle.printer.proofs.Ready.{Fine, fine, fine-cond, fine-finished, fine-noted, fine-quiet, fine-test, length-empty-store}
 use Rattle.printer.proofs.SoundTabs.{Inside, first-tab-inside, tab-put, tabs-cleared}
-use Rattle.printer.proofs.Soundness.{Sound, SoundHead, SoundLoad, SoundPlace, SoundPlot}
+use Rattle.printer.specs.Facts.{Sound, SoundHead, SoundLoad, SoundPlace, SoundPlot}
 
 lt-add-one : (a b : ℕ) → a < b → a + 1 ≤ b
 lt-add-one a b h = omega arith
-
-or-false : (a b : Bool) → a || b ≡ false → (a ≡ false) × (b ≡ false)
-or-false true b q = absurd (true≢false q)
-or-false false b q = (refl, q)
 
 -- a download that is in range lies within the store
 pub in-range : (count address : ℕ) → out-of-range count address ≡ false → (2048 ≤ address) × (address + count ≤ 4096)
 unfolding out-of-range
 in-range count address q =
-    let low = or-false (ltb address 2048) _ q in
-    let high = or-false _ _ (low .1) in
+    let low = or-parts (ltb address 2048) _ q in
+    let high = or-parts _ _ (low .1) in
     (ltb-false _ _ (low .0), ltb-false _ _ (high .0))
 
 -- The rules.

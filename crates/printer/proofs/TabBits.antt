@@ -64,14 +64,6 @@ put-word on (suc k) (suc n) w =
     let others : (v * 2 + w % 2) / 2 ≡ v = omega arith in
     ap₂ (λ (x y : ℕ). eqb x 1 ∷ word-tabs n y) lowest others ∙ ap (λ (bs : List Bool). eqb (w % 2) 1 ∷ bs) (put-word on k n (w / 2))
 
--- a word of n bits stays one
-pub put-below : (on : Bool) (k n w : ℕ) → k < n → w < 2 ^ n → put-bit on k w < 2 ^ n
-unfolding put-bit
-put-below on k zero w l h = absurd (omega arith)
-put-below true zero (suc n) w l h = omega arith
-put-below false zero (suc n) w l h = omega arith
-put-below on (suc k) (suc n) w l h = omega (arith, put-below on k n (w / 2) (omega arith) (omega arith))
-
 -- a bit that is on weighs 2 ^ k more than one that is off
 pub put-weight : (k w : ℕ) → put-bit true k w ≡ put-bit false k w + 2 ^ k
 unfolding put-bit

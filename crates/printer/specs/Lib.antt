@@ -3,6 +3,7 @@
 pub mod Tabs
 pub mod Machine
 pub mod Sound
+pub mod Facts
 pub mod Closing
 pub mod Numbers
 pub mod Steps

@@ -37,16 +37,16 @@ abbrev pub plain-style : Style
 plain-style = record { pitch = Normal; elongated = false; underscore = false; downloaded = false }
 
 -- the state at the start of a job: row 0, column 0, normal pitch, all features off, no tabs
-abbrev pub new-printer : Edition → Form → Printer
-new-printer e f = record { form = f; job = 0; pending = Nothing; head = fresh-head top; style = plain-style; tabs = no-tabs }
+abbrev pub new-printer : Form → Printer
+new-printer f = record { form = f; job = 0; pending = Nothing; head = fresh-head top; style = plain-style; tabs = no-tabs }
 
 -- the shut state, L = 0
-abbrev pub shut : Edition → Printer
-shut e = new-printer e (record { lines = 0; spacing = 0 })
+abbrev pub shut : Printer
+shut = new-printer (record { lines = 0; spacing = 0 })
 
 -- a job just opened: the page and the stores are zeroed
 abbrev pub opened : Edition → Form → Machine
-opened e f = record { printer = new-printer e f; page = blank-page e f; line = empty-line e; staging = empty-store; store = empty-store }
+opened e f = record { printer = new-printer f; page = blank-page e f; line = empty-line e; staging = empty-store; store = empty-store }
 
 -- The machine with one part of it changed.
 abbrev pub with-printer : Printer → Machine → Machine

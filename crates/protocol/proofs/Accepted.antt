@@ -2,7 +2,7 @@
 use Prim.Native.Nat.{ℕ}
 use mathlib.Core.Bool.{Bool, true, false, cond}
 use mathlib.Core.List.{List}
-use mathlib.Core.Path.{_≡_, refl}
+use mathlib.Core.Path.{_≡_, refl, sym, _∙_}
 use native.Mathlib.Omega.{arith}
 use borrow.Author.Tests.{eq-eqb, eqb-true}
 use lib.ListN.{length}
@@ -10,14 +10,14 @@ use Rattle.sheet.specs.declared.Form.{Form}
 use Rattle.sheet.specs.Edition.{Edition}
 use Rattle.sheet.specs.Form.{lines-allowed, spacing-allowed}
 use Rattle.printer.specs.Machine.{Machine, opened}
-use Rattle.printer.proofs.Ready.{Ready, Sized}
+use Rattle.printer.specs.Room.{Ready, Sized}
 use Rattle.printer.proofs.Soundness.{facts-sound}
 use Rattle.protocol.specs.declared.Answer.the-variants.{Done, WrongLines, WrongSpacing}
 use Rattle.protocol.specs.declared.Fit.{Fit}
 use Rattle.protocol.specs.declared.Fit.the-variants.{Right, Wrong}
 use Rattle.protocol.specs.declared.Lent.{Lent}
 use Rattle.protocol.specs.declared.Lent.the-variants.{Page, LineStore, Staging, DownloadStore, Font}
-use Rattle.protocol.specs.Calls.{Opening, feed-fitted, feeding, fit, open-fitted, opening, take-bytes, unopened}
+use Rattle.protocol.specs.Calls.{Feeding, Opening, feed-fitted, feeding, fit, open-fitted, opening, take-bytes, unopened}
 
 -- all that is lent has its length
 pub record Fitting (e : Edition) (f : Form) (fnt : List ℕ) (m : Machine) : Type 0 where
@@ -44,10 +44,10 @@ module _ (e : Edition) (f : Form) (font : List ℕ) (m : Machine) where
   fitting-right h =
       rw (eq-eqb _ _ (h .memory .page), eq-eqb _ _ (h .memory .line), eq-eqb _ _ (h .memory .staging), eq-eqb _ _ (h .memory .store), eq-eqb _ _ (h .font))
 
-  pub right-fitting : fit e f font m ≡ Right → Fitting e f font m
+  pub right-fitting : {tested : Fit} → tested ≡ fit e f font m → tested ≡ Right → Fitting e f font m
   unfolding fit
-  right-fitting q =
-      let t = five _ _ _ _ _ q in
+  right-fitting is q =
+      let t = five _ _ _ _ _ (sym is ∙ q) in
       record {
         memory = record { page = eqb-true _ _ (t .0); line = eqb-true _ _ (t .1); staging = eqb-true _ _ (t .2); store = eqb-true _ _ (t .3) };
         font = eqb-true _ _ (t .4);
@@ -59,6 +59,10 @@ pub feeding-takes : {e : Edition} {m : Machine} → Ready e m → (font : List �
 unfolding feeding feed-fitted
 feeding-takes {e} {m} h font l piece =
     rw (facts-sound e (m .printer) (h .printer), fitting-right e (m .printer .form) font m (record { memory = h .memory; font = l }))
+
+pub takes-fed : {e : Edition} {m : Machine} → Ready e m → (font : List ℕ) → length font ≡ 2048 → (piece : List ℕ) (f : Feeding)
+    → f ≡ take-bytes e font piece m → f ≡ feeding e font piece m
+takes-fed h font l piece f q = q ∙ sym (feeding-takes h font l piece)
 
 -- what an opening that is not refused gives
 pub record Accepted (e : Edition) (f : Form) (fnt : List ℕ) (o : Opening) : Type 0 where
@@ -74,12 +78,12 @@ module _ (e : Edition) (lines spacing : ℕ) (font : List ℕ) (m : Machine) whe
   fitted : (t : Fit) → fit e form font m ≡ t → lines-allowed e lines ≡ true → spacing-allowed spacing ≡ true
       → open-fitted e form t m .answer ≡ Done → Accepted e form font (open-fitted e form t m)
   unfolding open-fitted
-  fitted Right q l s d = record { lines = l; spacing = s; font = right-fitting e form font m q .font; machine = refl }
+  fitted Right q l s d = record { lines = l; spacing = s; font = right-fitting e form font m refl q .font; machine = refl }
   fitted (Wrong lent) q l s d = let z : _≡_ {A = ℕ} 0 1 = cc in absurd (omega arith)
 
   tested : (a b : Bool) → lines-allowed e lines ≡ a → spacing-allowed spacing ≡ b
-      → cond a (cond b (open-fitted e form (fit e form font m) m) (unopened e WrongSpacing m)) (unopened e WrongLines m) .answer ≡ Done
-      → Accepted e form font (cond a (cond b (open-fitted e form (fit e form font m) m) (unopened e WrongSpacing m)) (unopened e WrongLines m))
+      → cond a (cond b (open-fitted e form (fit e form font m) m) (unopened WrongSpacing m)) (unopened WrongLines m) .answer ≡ Done
+      → Accepted e form font (cond a (cond b (open-fitted e form (fit e form font m) m) (unopened WrongSpacing m)) (unopened WrongLines m))
   tested true true l s d = fitted (fit e form font m) refl l s d
   tested true false l s d = let z : _≡_ {A = ℕ} 0 1 = cc in absurd (omega arith)
   tested false b l s d = let z : _≡_ {A = ℕ} 0 1 = cc in absurd (omega arith)

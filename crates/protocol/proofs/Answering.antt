@@ -17,7 +17,8 @@ use Rattle.printer.specs.Machine.{Machine, shut, with-printer}
 use Rattle.printer.specs.Sound.{form-sound, sound}
 use Rattle.printer.specs.Steps.{Step, tell, tell-step}
 use Rattle.printer.proofs.Keeping.{step-counts}
-use Rattle.printer.proofs.Ready.{Allowed, Ready}
+use Rattle.printer.specs.Room.{Ready}
+use Rattle.printer.proofs.Ready.{Allowed}
 use Rattle.printer.proofs.Soundness.{sound-facts}
 use Rattle.printer.proofs.StaysSound.{step-fine}
 use Rattle.protocol.specs.declared.Answer.{Answer}
@@ -84,7 +85,7 @@ data Fate (e : Edition) (font piece : List ℕ) (m : Machine) (f : Feeding) : Ty
 module _ (e : Edition) (font piece : List ℕ) (m : Machine) where
   fitted-fate : (t : Fit) → fit e (m .printer .form) font m ≡ t → sound e (m .printer) ≡ true → Fate e font piece m (feed-fitted e font piece t m)
   unfolding feed-fitted refusal
-  fitted-fate Right q s = taken (record { printer = sound-facts e (m .printer) s; memory = right-fitting e (m .printer .form) font m q .memory }) refl
+  fitted-fate Right q s = taken (record { printer = sound-facts e (m .printer) s; memory = right-fitting e (m .printer .form) font m refl q .memory }) refl
   fitted-fate (Wrong lent) q s = refused refl refl refl
 
   tested-fate : (t : Bool) → sound e (m .printer) ≡ t
@@ -151,24 +152,24 @@ module _ (e : Edition) (lines spacing : ℕ) (font : List ℕ) (m : Machine) whe
   form = record { lines = lines; spacing = spacing }
 
   abbrev Unchanged : Opening → Type 0
-  Unchanged o = refusal (o .answer) ≡ true → o .machine ≡ with-printer (shut e) m
+  Unchanged o = refusal (o .answer) ≡ true → o .machine ≡ with-printer shut m
 
   fitted-unchanged : (t : Fit) → Unchanged (open-fitted e form t m)
   unfolding open-fitted refusal
   fitted-unchanged Right h = absurd (true≢false (sym h))
   fitted-unchanged (Wrong lent) h = refl
 
-  tested-unchanged : (a b : Bool) → Unchanged (cond a (cond b (open-fitted e form (fit e form font m) m) (unopened e WrongSpacing m)) (unopened e WrongLines m))
+  tested-unchanged : (a b : Bool) → Unchanged (cond a (cond b (open-fitted e form (fit e form font m) m) (unopened WrongSpacing m)) (unopened WrongLines m))
   tested-unchanged true true h = fitted-unchanged (fit e form font m) h
   tested-unchanged true false h = refl
   tested-unchanged false b h = refl
 
-  pub opening-refused : refusal (opening e lines spacing font m .answer) ≡ true → opening e lines spacing font m .machine ≡ with-printer (shut e) m
+  pub opening-refused : refusal (opening e lines spacing font m .answer) ≡ true → opening e lines spacing font m .machine ≡ with-printer shut m
   unfolding opening
   opening-refused h = tested-unchanged (lines-allowed e lines) (spacing-allowed spacing) h
 
 -- the shut state is unsound
-pub shut-unsound : (e : Edition) → sound e (shut e) ≡ false
+pub shut-unsound : (e : Edition) → sound e shut ≡ false
 unfolding sound form-sound lines-allowed
 shut-unsound e = refl
 

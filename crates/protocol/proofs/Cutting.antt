@@ -18,7 +18,8 @@ use Rattle.printer.specs.Steps.{Step, tell, tell-step, then}
 use Rattle.printer.proofs.Appending.{run-append}
 use Rattle.printer.proofs.Keeping.{run-counts, step-counts, tell-printer}
 use Rattle.printer.proofs.Readings.{run-reading}
-use Rattle.printer.proofs.Ready.{Allowed, Ready}
+use Rattle.printer.specs.Room.{Ready}
+use Rattle.printer.proofs.Ready.{Allowed}
 use Rattle.printer.proofs.StaysSound.{opened-ready, run-ready, step-fine, tell-ready}
 use Rattle.protocol.specs.declared.Answer.the-variants.{Done}
 use Rattle.protocol.specs.Calls.{Feeding, feeding, heard, limit, opening, take-bytes}

@@ -24,7 +24,8 @@ use Rattle.printer.specs.Strikes.{PutBy, Strike, strike-all, strikes-of}
 use Rattle.printer.proofs.Dots.{AllOnForm, on-form-append, strike-all-append, strikes-black, strikes-on-form, strikes-stay-black}
 use Rattle.printer.proofs.Keeping.{step-counts}
 use Rattle.printer.proofs.Pages.{step-page}
-use Rattle.printer.proofs.Ready.{Allowed, Ready}
+use Rattle.printer.specs.Room.{Ready}
+use Rattle.printer.proofs.Ready.{Allowed}
 use Rattle.printer.proofs.Soundness.{sound-facts}
 use Rattle.printer.proofs.StaysSound.{step-fine}
 use Rattle.protocol.specs.declared.Answer.{Answer}
@@ -77,7 +78,7 @@ module _ (e : Edition) (font : List ℕ) where
   unfolding fitted-strikes feed-fitted
   fitted-inked piece m Right q s =
       taken-inked piece m (m .printer .form) refl
-      (record { printer = sound-facts e (m .printer) s; memory = right-fitting e (m .printer .form) font m q .memory })
+      (record { printer = sound-facts e (m .printer) s; memory = right-fitting e (m .printer .form) font m refl q .memory })
   fitted-inked piece m (Wrong lent) q s = unstruck (m .printer .form) (Misfit lent) m
 
   tested-inked : (piece : List ℕ) (m : Machine) (t : Bool) → sound e (m .printer) ≡ t
@@ -101,7 +102,7 @@ module _ (e : Edition) (font piece : List ℕ) (m : Machine) where
 
   fitted-size : (t : Fit) → fit e (m .printer .form) font m ≡ t → Size (fitted-strikes e font piece t m)
   unfolding fitted-strikes
-  fitted-size Right q = inr (right-fitting e (m .printer .form) font m q .memory .page)
+  fitted-size Right q = inr (right-fitting e (m .printer .form) font m refl q .memory .page)
   fitted-size (Wrong lent) q = inl refl
 
   tested-size : (t : Bool) → Size (cond t (fitted-strikes e font piece (fit e (m .printer .form) font m) m) [])

@@ -14,8 +14,8 @@ use Rattle.sheet.specs.Form.{form-rows, lines-allowed, rows-per-line, spacing-a
 use Rattle.printer.specs.Commands.{reading}
 use Rattle.printer.specs.Machine.{Machine, opened}
 use Rattle.printer.specs.Table.{Case, Meets, found, start, table}
-use Rattle.printer.proofs.Ready.{Ready}
-use Rattle.printer.proofs.Soundness.{SoundHead}
+use Rattle.printer.specs.Room.{Ready}
+use Rattle.printer.specs.Facts.{SoundHead}
 use Rattle.printer.proofs.StaysSound.{opened-ready}
 use Rattle.printer.proofs.Table.{cases}
 use Rattle.protocol.specs.declared.Answer.the-variants.{Done}

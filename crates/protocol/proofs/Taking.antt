@@ -18,9 +18,9 @@ use Rattle.printer.specs.declared.Printer.{Printer}
 use Rattle.printer.specs.Bytes.{step}
 use Rattle.printer.specs.Given.{machine}
 use Rattle.printer.specs.Machine.{Machine}
-use Rattle.printer.specs.Room.{Room}
+use Rattle.printer.specs.Room.{Ready, Room}
 use Rattle.printer.specs.Steps.{Step}
-use Rattle.printer.proofs.Ready.{Allowed, Ready}
+use Rattle.printer.proofs.Ready.{Allowed}
 use Rattle.protocol.specs.declared.Answer.the-variants.{Done, JobFull}
 use Rattle.protocol.specs.Calls.{Feeding, heard, limit, one-more, stopped, take-bytes}
 use Rattle.protocol.specs.Given.{answer-to, given-feeding, is-quiet, more}
@@ -39,11 +39,6 @@ ready-room {p} h f =
       store = h .memory .store;
       resident = f;
     }
-
--- a page of a form's size, zeroed
-pub unmarked : (f : Form) (page : List ℕ) → length page ≡ page-bytes lp2 f → replicate (length page) 0 ≡ blank-page lp2 f
-unfolding blank-page
-unmarked f page q = ap (λ (n : ℕ). replicate n 0) q
 
 abbrev with-taken : ℕ → Feeding → Feeding
 with-taken n f = record { answer = f .answer; taken = n; machine = f .machine }

@@ -39,21 +39,21 @@ pub record Opening : Type 0 where
   pub machine : Machine
 
 -- a refused opening gives the shut state and changes no lent memory
-abbrev pub unopened : Edition → Answer → Machine → Opening
-unopened e a m = record { answer = a; machine = with-printer (shut e) m }
+abbrev pub unopened : Answer → Machine → Opening
+unopened a m = record { answer = a; machine = with-printer shut m }
 
 -- 11 to 15, then 0
 unfoldable pub open-fitted : Edition → Form → Fit → Machine → Opening
 open-fitted e f Right m = record { answer = Done; machine = opened e f }
-open-fitted e f (Wrong lent) m = unopened e (Misfit lent) m
+open-fitted e f (Wrong lent) m = unopened (Misfit lent) m
 
 -- opening, over a machine of which only the memory counts: 18, 19, then the lengths
 unfoldable pub opening : Edition → ℕ → ℕ → List ℕ → Machine → Opening
 opening e lines spacing font m =
     let f : Form = record { lines = lines; spacing = spacing } in
     cond (lines-allowed e lines)
-    (cond (spacing-allowed spacing) (open-fitted e f (fit e f font m) m) (unopened e WrongSpacing m))
-    (unopened e WrongLines m)
+    (cond (spacing-allowed spacing) (open-fitted e f (fit e f font m) m) (unopened WrongSpacing m))
+    (unopened WrongLines m)
 
 -- what feeding gives back, with the memory as it leaves it
 pub record Feeding : Type 0 where

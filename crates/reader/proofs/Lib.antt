@@ -1,2 +1,3 @@
 -- What a byte outside plot mode is.
 pub mod TextBytes
+pub mod Acting

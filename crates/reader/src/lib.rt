@@ -1,2 +1,4 @@
 // The reader: one byte of a job, by what is pending.
-pub mod bytes;
+mod bytes;
+
+pub use bytes::step;

@@ -1,2 +1,1 @@
 pub mod Adler
-pub mod Script

@@ -2,7 +2,6 @@
 ghost use Prim.Native.Nat.{_+_, _*_, _≤_, min};
 ghost use mathlib.Core.Path.{_≡_};
 ghost use lib.ListN.{getD, length};
-ghost use Rattle.replay.specs.Script.{page-size};
 use crate::lines::say_feeding;
 use crate::lines::say_left;
 use crate::lines::say_line;
@@ -16,10 +15,8 @@ use protocol::Answer;
 use protocol::Fed;
 use protocol::numbers::answer_number;
 use report::say_number;
-use sheet::Form;
-use sheet::sizes::form_rows;
-use sheet::sizes::spacing_allowed;
-use striking::strike::blank;
+use sheet::clearing::blank;
+use sheet::sizes::page_size;
 
 // A replay so far: the printer, how many forms are finished, how many bytes of the present piece are taken, whether the job goes on, and whether
 // standard output took every line.
@@ -213,21 +210,6 @@ fn open_job(
     }
     let printer = opened.printer;
     feed_job(printer, pieces, page, line, staging, store, font)
-}
-
-// The bytes of a script's page, none where its job is not opened.
-fn page_size(lines: usize, spacing: usize) -> usize
-    ensures { λ r. ⌜ r ≡ page-size lines spacing ⌝ }
-    ensures { λ r. ⌜ r ≤ 980100 ⌝ }
-{
-    if lines > 99 {
-        return 0;
-    }
-    if !spacing_allowed(spacing) {
-        return 0;
-    }
-    let form = Form { lines, spacing };
-    form_rows(form) * 825
 }
 
 // Replays a script, and answers whether standard output took every line.

@@ -8,7 +8,7 @@ use Rattle.sheet.specs.Edition.{lp2}
 use Rattle.printer.specs.Bytes.{step}
 use Rattle.printer.specs.Machine.{Machine}
 use Rattle.printer.specs.Steps.{Step, quiet}
-use Rattle.printer.proofs.Ready.{Ready}
+use Rattle.printer.specs.Room.{Ready}
 use Rattle.printer.proofs.StaysSound.{step-fine}
 use Rattle.protocol.specs.Calls.{limit}
 use Rattle.protocol.proofs.Taking.{more-zero, taken-on}

@@ -9,7 +9,7 @@ use Rattle.printer.specs.declared.Load.{Load}
 use Rattle.printer.specs.declared.Pending.the-variants.{Nothing, Payload}
 use Rattle.printer.specs.declared.Printer.{Printer}
 use Rattle.printer.specs.Machine.{Machine}
-use Rattle.printer.proofs.Ready.{Ready}
+use Rattle.printer.specs.Room.{Ready}
 use Rattle.protocol.specs.Calls.{take-bytes}
 use Rattle.protocol.specs.Given.{more}
 

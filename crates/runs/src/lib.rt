@@ -7,7 +7,9 @@ pub struct Ran {
     pub taken: usize,
 }
 
-pub mod payload;
-pub mod plots;
-pub mod runs;
-pub mod text;
+mod payload;
+mod plots;
+mod runs;
+mod text;
+
+pub use runs::run;

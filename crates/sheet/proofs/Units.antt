@@ -3,7 +3,7 @@ use Prim.Native.Nat.{ℕ, suc, _+_, _-_, _*_, _/_, _≤_, _<_}
 use mathlib.Core.Path.{_≡_, sym, ap, _∙_}
 use mathlib.Core.Bool.{Bool, true, false, cond}
 use native.Mathlib.Omega.{arith}
-use native.Mathlib.Nat.{mul-le-mul-left, mul-le-mul-right, div-lt-iff-lt-mul, mul-div-cancel, zero-mul}
+use native.Mathlib.Nat.{mul-le-mul-left, mul-le-mul-right, div-lt-iff-lt-mul, zero-mul}
 use native.Mathlib.Decide.{decLe}
 use lib.Dec.{eqb, leb}
 use lib.ListN.{length, length-replicate}
@@ -11,7 +11,7 @@ use borrow.Author.Tests.{leb-true, le-leb, lt-leb}
 use Rattle.sheet.specs.declared.Form.{Form}
 use Rattle.sheet.specs.declared.Line.{Line}
 use Rattle.sheet.specs.declared.Row.{Row}
-use Rattle.sheet.specs.Edition.{Edition}
+use Rattle.sheet.specs.Edition.{Edition, lp2}
 use Rattle.sheet.specs.Form.{blank-page, empty-line, first-row, fits, form-rows, line-of, page-bytes, rows-per-line, top}
 
 -- a line has nine rows at least, one for each wire
@@ -36,6 +36,11 @@ twelve-rows spacing = either (eqb spacing 6)
 pub form-rows-most : (f : Form) → f .lines ≤ 99 → form-rows f ≤ 1188
 unfolding form-rows
 form-rows-most f h = omega (arith, mul-le-mul-right (rows-per-line (f .spacing)) h, twelve-rows (f .spacing))
+
+-- no page of LP2's is longer than that of 99 lines at 6 an inch
+pub page-bytes-most : (f : Form) → f .lines ≤ 99 → page-bytes lp2 f ≤ 980100
+unfolding page-bytes lp2
+page-bytes-most f h = omega (arith, form-rows-most f h)
 
 -- a line up to line 128 has its first row at 1,524 at most
 pub first-row-most : (f : Form) (n : Line) → n .0 ≤ 128 → first-row f n .0 ≤ 1524
@@ -64,14 +69,6 @@ room r rows h = either (decLe r (rows - 9))
 -- where there are fewer than nine rows there is no room
 pub no-room : (r rows : ℕ) → rows < 9 → leb 9 rows ≡ leb (r + 9) rows
 no-room r rows h = lt-leb 9 rows h ∙ sym (lt-leb (r + 9) rows (omega arith))
-
--- the first row of a line lies in that line
-pub line-of-first-row : (f : Form) (n : Line) → 1 ≤ n .0 → line-of f (first-row f n) ≡ n
-unfolding line-of first-row
-line-of-first-row f n h =
-    let some : 0 < rows-per-line (f .spacing) = omega (arith, nine-rows (f .spacing)) in
-    let back : 1 + (n .0 - 1) * rows-per-line (f .spacing) / rows-per-line (f .spacing) ≡ n .0 = omega (arith, mul-div-cancel (n .0 - 1) some) in
-    ap (λ (k : ℕ). record { 0 = k }) back
 
 -- every line of a form can be struck at its first row
 pub line-fits : (f : Form) (n : Line) → 1 ≤ n .0 → n .0 ≤ f .lines → fits f (first-row f n) ≡ true

@@ -29,6 +29,10 @@ form-rows f = f .lines * rows-per-line (f .spacing)
 unfoldable pub page-bytes : Edition → Form → ℕ
 page-bytes e f = form-rows f * e .bytes
 
+-- the bytes of the page that so many lines at a spacing need, 0 where there is no such form
+unfoldable pub page-size : Edition → ℕ → ℕ → ℕ
+page-size e lines spacing = cond (lines-allowed e lines && spacing-allowed spacing) (page-bytes e (record { lines = lines; spacing = spacing })) 0
+
 -- a page with no dot black
 unfoldable pub blank-page : Edition → Form → List ℕ
 blank-page e f = replicate (page-bytes e f) 0

@@ -21,4 +21,5 @@ pub enum Pitch {
     Compressed,
 }
 
+pub mod clearing;
 pub mod sizes;

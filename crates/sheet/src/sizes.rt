@@ -2,7 +2,7 @@
 ghost use Prim.Native.Nat.{_≤_};
 ghost use mathlib.Core.Path.{_≡_};
 ghost use Rattle.sheet.specs.Edition.{lp2};
-ghost use Rattle.sheet.specs.Form.{lines-allowed, spacing-allowed, rows-per-line, form-rows, page-bytes, first-row, line-of, lower, fits};
+ghost use Rattle.sheet.specs.Form.{lines-allowed, spacing-allowed, rows-per-line, form-rows, page-bytes, page-size, first-row, line-of, lower, fits};
 use crate::Form;
 use crate::Grid;
 use crate::Line;
@@ -45,6 +45,21 @@ pub fn page_bytes(form: Form) -> usize
     ensures { λ r. ⌜ r ≡ page-bytes lp2 form ⌝ }
 {
     form_rows(form) * 825
+}
+
+// The bytes of the page that so many lines at a spacing need, 0 where there is no such form.
+pub fn page_size(lines: usize, spacing: usize) -> usize
+    ensures { λ r. ⌜ r ≡ page-size lp2 lines spacing ⌝ }
+    ensures { λ r. ⌜ r ≤ 980100 ⌝ }
+{
+    if !lines_allowed(lines) {
+        return 0;
+    }
+    if !spacing_allowed(spacing) {
+        return 0;
+    }
+    let form = Form { lines, spacing };
+    page_bytes(form)
 }
 
 // The first row of a line.

@@ -1,4 +1,7 @@
 // The state: its tabs, one part of it changed, which states are sound, and what is said of a job that is closed.
 pub mod parts;
-pub mod sound;
+mod soundness;
 pub mod tabs;
+
+pub use soundness::closing;
+pub use soundness::sound;

@@ -1,14 +1,16 @@
 -- `plotting::plot_escape` meets its contract.
+mod Places
 use borrow.Author.Needs.{needs}
 use mathlib.Core.Path.{_∙_}
 use borrow.Author.Tests.{ne-eqb}
 use Rattle.printer.specs.Plotting.{plot-escape}
 use Rattle.carriage.proofs.plotting.plot_escape.Statement.{statement}
 use Rattle.carriage.proofs.plotting.plot_escape.Tie as tie
+use Places.*
 
 returns : tie.Need-returns
 unfolding plot-escape
-returns c page staging store = c .before .before .plot .ensures page staging store ∙ simp (c .before .before .before .before .match .keys1)
+returns c page staging store = c .before .before .plot .ensures page staging store ∙ simp (match-keys1-at-returns c .match .keys1)
 
 returns-2 : tie.Need-returns-2
 unfolding plot-escape
@@ -19,4 +21,7 @@ unfolding plot-escape
 returns-3 c page staging store = simp (c .noted .ensures, ne-eqb _ _ (c .before .match .rest .1), ne-eqb _ _ (c .before .match .rest .0 .1))
 
 pub plot-escape-spec : {M : Type 1} → statement M
-plot-escape-spec = tie.close (tie.spec (λ c κs. search needs) (λ c κs. search needs) (λ c κs. search needs) (λ c κs. search needs) (λ c. search needs) returns returns-2 returns-3)
+plot-escape-spec =
+    tie.close
+    (tie.spec (λ c κs. search needs) (λ c κs. search needs) (λ c κs. search needs) (λ c κs. search needs) (λ c. search needs) returns returns-2
+    returns-3)

@@ -1,7 +1,7 @@
 -- `calls::tell` meets its contract.
 use borrow.Author.Needs.{needs}
 use mathlib.Core.List.{[], _∷_}
-use Rattle.clocktoad.proofs.Writing.{written-behind}
+use Rattle.words.proofs.Writing.{written-behind}
 use Rattle.clocktoad.proofs.calls.tell.Statement.{statement}
 use Rattle.clocktoad.proofs.calls.tell.Tie as tie
 

@@ -16,10 +16,18 @@ abbrev μ-loop : tie.MeasureT-loop
 μ-loop to₀ from n i₀ to i = n - i
 
 loop-again : tie.Need-loop-again Inv-loop μ-loop
-loop-again c = let a = c .before .before .before .args in let l = c .before .before .loop in let ht : l .i < length (a .to .now) = omega arith in let hf : l .i < length (a .from .now) = omega arith in (omega arith, simp length-set (l .inv .1), simp (l .inv .2) (copy-more (a .to .now) (a .from .now) (l .i) ht hf))
+loop-again c =
+    let a = c .before .before .before .args in
+    let l = c .before .before .loop in
+    let ht : l .i < length (a .to .now) = omega arith in
+    let hf : l .i < length (a .from .now) = omega arith in
+    (omega arith, simp length-set (l .inv .1), simp (l .inv .2) (copy-more (a .to .now) (a .from .now) (l .i) ht hf))
 
 returns : tie.Need-returns Inv-loop μ-loop
 returns c = let done : c .before .loop .i ≡ c .before .before .args .n = omega arith in simp (← done) (c .before .loop .inv .2)
 
 pub copy-spec : {M : Type 1} → statement M
-copy-spec = tie.close (tie.spec Inv-loop μ-loop (λ c. search needs) (λ c. search needs) (λ c. search needs) (λ c. search needs) (λ c. search needs) loop-again (λ c. search needs) returns)
+copy-spec =
+    tie.close
+    (tie.spec Inv-loop μ-loop (λ c. search needs) (λ c. search needs) (λ c. search needs) (λ c. search needs) (λ c. search needs) loop-again
+    (λ c. search needs) returns)

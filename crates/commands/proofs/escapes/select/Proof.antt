@@ -18,4 +18,6 @@ unfolding select
 returns-3 c m = simp (c .quiet .ensures, c .before .set-downloaded .ensures, c .before .before .before .if1 .left, c .before .before .if2 .left)
 
 pub select-spec : {M : Type 1} → statement M
-select-spec = tie.close (tie.spec (λ c κs. search needs) returns (λ c κs. search needs) returns-2 (λ c κs. search needs) (λ c κs. search needs) returns-3)
+select-spec =
+    tie.close
+    (tie.spec (λ c κs. search needs) returns (λ c κs. search needs) returns-2 (λ c κs. search needs) (λ c κs. search needs) returns-3)

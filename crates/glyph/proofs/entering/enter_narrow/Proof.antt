@@ -1,4 +1,5 @@
 -- `entering::enter_narrow` meets its contract.
+mod Places
 use Prim.Native.Nat.{_≤_, _-_}
 use mathlib.Core.Path.{_≡_, refl, _∙_}
 use native.Mathlib.Omega.{arith}
@@ -8,6 +9,7 @@ use Rattle.glyph.specs.Entering.{enter-narrow}
 use Rattle.glyph.proofs.Turns.{narrow-turn}
 use Rattle.glyph.proofs.entering.enter_narrow.Statement.{statement}
 use Rattle.glyph.proofs.entering.enter_narrow.Tie as tie
+use Places.*
 
 -- k columns are entered
 abbrev Inv-loop : tie.InvT-loop
@@ -22,7 +24,7 @@ loop-holds c = (omega arith, refl, refl)
 
 loop-again : tie.Need-loop-again Inv-loop μ-loop
 loop-again c =
-    let l = c .before .before .before .before .before .before .loop in (
+    let l = loop-at-loop-again c .loop in (
       omega arith,
       c .before .before .or-in .kept .0 ∙ l .inv .1,
       c .before .before .or-in .ensures ∙ simp (c .before .before .before .column .ensures, l .inv .2) (narrow-turn _ _ _ _ _),
@@ -36,15 +38,5 @@ returns c =
 pub enter-narrow-spec : {M : Type 1} → statement M
 enter-narrow-spec =
     tie.close
-    (tie.spec
-    Inv-loop
-    μ-loop
-    loop-holds
-    (λ c. omega arith)
-    (λ c κs. omega arith)
-    (λ c κs. omega arith)
-    (λ c. omega arith)
-    (λ c. omega arith)
-    loop-again
-    (λ c. search needs)
-    returns)
+    (tie.spec Inv-loop μ-loop loop-holds (λ c. omega arith) (λ c κs. omega arith) (λ c κs. omega arith) (λ c. omega arith) (λ c. omega arith)
+    loop-again (λ c. search needs) returns)

@@ -1,40 +1,80 @@
--- `calls::open` meets its contract.
+-- `calls::open` meets its contract: lines, spacing and lengths are tested in this order, the first that is wrong is answered with the shut state, and
+-- what passes all starts a job.
+mod Places
 use borrow.Author.Needs.{needs}
 use mathlib.Core.Bool.{and-eq-true-iff, true}
-use mathlib.Core.Path.{_≡_, sym, _∙_}
+use mathlib.Core.Path.{_≡_, ap, sym, _∙_}
 use borrow.Author.Tests.{leb-true, not-false, not-true}
 use lib.Dec.{leb}
 use Rattle.sheet.specs.Edition.{lp2}
-use Rattle.sheet.specs.Form.{lines-allowed}
-use Rattle.printer.specs.Machine.{shut}
+use Rattle.sheet.specs.Form.{lines-allowed, spacing-allowed}
+use Rattle.printer.specs.declared.Printer.{Printer}
 use Rattle.printer.specs.Given.{machine}
-use Rattle.protocol.specs.Calls.{open-fitted, opening}
+use Rattle.printer.specs.Machine.{Machine, shut}
+use Rattle.protocol.specs.declared.Answer.{Answer}
+use Rattle.protocol.specs.declared.Opened.{Opened}
+use Rattle.protocol.specs.Calls.{unopened}
+use Rattle.protocol.specs.Given.{given-opening}
 use Rattle.protocol.proofs.Accepted.{right-fitting}
+use Rattle.protocol.proofs.Ways.{open-done, open-lines, open-misfit, open-spacing}
 use Rattle.job.proofs.calls.open.Statement.{statement}
 use Rattle.job.proofs.calls.open.Tie as tie
+use Places.*
+
+-- the memory lent, under a state that doesn't count
+abbrev lent : tie.Start → Printer → Machine
+lent c p = let a = c .args in machine p (a .page .now) (a .line .now) (a .staging .now) (a .store .now)
+
+-- past the first test the lines are in range, past the second the spacing is
+lines-right : (c : tie.Else1) → lines-allowed lp2 (start-at-else1 c .args .lines) ≡ true
+lines-right c = sym (c .before .lines-allowed .ensures) ∙ not-false (c .before .lines-allowed .result) (c .if1 .left)
+
+spacing-right : (c : tie.Else2) → spacing-allowed (start-at-else2 c .args .spacing) ≡ true
+spacing-right c = sym (c .before .spacing-allowed .ensures) ∙ not-false (c .before .spacing-allowed .result) (c .if2 .left)
+
+-- a refused opening, over the memory as it was lent
+shut-with : (c : tie.Start) {o : Opened} {answer : Answer} → o ≡ record { printer = shut; answer = answer }
+    → let a = c .args in given-opening o (a .page .now) (a .line .now) (a .staging .now) (a .store .now) ≡ unopened answer (lent c shut)
+shut-with c q = let a = c .args in ap (λ (o : Opened). given-opening o (a .page .now) (a .line .now) (a .staging .now) (a .store .now)) q
 
 returns : tie.Need-returns
-unfolding opening open-fitted
-returns c p = simp (c .unopened .ensures, ← c .before .before .lines-allowed .ensures, not-true (c .before .before .lines-allowed .result) (c .before .if1 .taken))
+returns c p =
+    shut-with (start-at-returns c) (c .unopened .ensures)
+    ∙ open-lines lp2 _ _ _ (lent (start-at-returns c) p)
+    (sym (c .before .before .lines-allowed .ensures) ∙ not-true (c .before .before .lines-allowed .result) (c .before .if1 .taken))
 
 returns-2 : tie.Need-returns-2
-unfolding opening open-fitted
-returns-2 c p = simp (c .unopened2 .ensures, ← c .before .before .before .before .lines-allowed .ensures, not-false (c .before .before .before .before .lines-allowed .result) (c .before .before .before .if1 .left), ← c .before .before .spacing-allowed .ensures, not-true (c .before .before .spacing-allowed .result) (c .before .if2 .taken))
+returns-2 c p =
+    shut-with (start-at-returns-2 c) (c .unopened2 .ensures)
+    ∙ open-spacing lp2 _ _ _ (lent (start-at-returns-2 c) p) (lines-right (c .before .before .before))
+    (sym (c .before .before .spacing-allowed .ensures) ∙ not-true (c .before .before .spacing-allowed .result) (c .before .if2 .taken))
 
 fit-requires : tie.Need-fit-requires
 unfolding lines-allowed lp2
-fit-requires c κs = let a = c .before .before .before .before .before .before .before .before .before .before .before .before .before .args in let s : lines-allowed lp2 (a .lines) ≡ true = sym (c .before .before .before .before .before .before .before .lines-allowed .ensures) ∙ not-false (c .before .before .before .before .before .before .before .lines-allowed .result) (c .before .before .before .before .before .before .if1 .left) in leb-true _ _ (and-eq-true-iff (leb 1 (a .lines)) (leb (a .lines) 99) .0 s .1)
+fit-requires c κs =
+    let n = start-at-fit-requires c .args .lines in
+    leb-true _ _ (and-eq-true-iff (leb 1 n) (leb n 99) .0 (lines-right (else1-at-fit-requires c)) .1)
 
 start-requires : tie.Need-start-requires
-start-requires c κs = let a = c .before .before .before .before .before .before .before .before .before .before .before .before .before .before .before .before .before .before .before .before .args in right-fitting lp2 (record { lines = a .lines; spacing = a .spacing }) (a .font .now) (machine (shut lp2) (a .page .now) (a .line .now) (a .staging .now) (a .store .now)) (sym (c .before .before .before .before .before .before .fit .ensures (shut lp2)) ∙ c .before .before .before .before .enum-told .given .1) .memory
+start-requires c κs =
+    right-fitting lp2 _ _ (lent (start-at-start-requires c) shut)
+    (fit-at-start-requires c .fit .ensures shut) (enum-told-at-start-requires c .enum-told .given .1) .memory
 
 returns-3 : tie.Need-returns-3
-unfolding opening open-fitted
-returns-3 c p = simp (c .unopened3 .ensures, ← c .before .before .before .before .before .before .before .before .before .before .before .before .lines-allowed .ensures, not-false (c .before .before .before .before .before .before .before .before .before .before .before .before .lines-allowed .result) (c .before .before .before .before .before .before .before .before .before .before .before .if1 .left), ← c .before .before .before .before .before .before .before .before .before .before .spacing-allowed .ensures, not-false (c .before .before .before .before .before .before .before .before .before .before .spacing-allowed .result) (c .before .before .before .before .before .before .before .before .before .if2 .left), ← c .before .before .before .before .fit .ensures p, c .before .before .fitting .given .1)
+returns-3 c p =
+    shut-with (start-at-returns-3 c) (c .unopened3 .ensures)
+    ∙ open-misfit lp2 _ _ _ (lent (start-at-returns-3 c) p) (lines-right (else1-at-returns-3 c)) (spacing-right (else2-at-returns-3 c))
+    (fit-at-returns-3 c .fit .ensures p) (c .before .before .fitting .given .1)
 
 returns-4 : tie.Need-returns-4
-unfolding opening open-fitted
-returns-4 c p = c .before .before .before .before .before .before .before .before .start .ensures ∙ simp (← c .before .before .before .before .before .before .before .before .before .before .before .before .before .before .before .before .before .before .before .before .before .before .before .lines-allowed .ensures, not-false (c .before .before .before .before .before .before .before .before .before .before .before .before .before .before .before .before .before .before .before .before .before .before .before .lines-allowed .result) (c .before .before .before .before .before .before .before .before .before .before .before .before .before .before .before .before .before .before .before .before .before .before .if1 .left), ← c .before .before .before .before .before .before .before .before .before .before .before .before .before .before .before .before .before .before .before .before .before .spacing-allowed .ensures, not-false (c .before .before .before .before .before .before .before .before .before .before .before .before .before .before .before .before .before .before .before .before .before .spacing-allowed .result) (c .before .before .before .before .before .before .before .before .before .before .before .before .before .before .before .before .before .before .before .before .if2 .left), ← c .before .before .before .before .before .before .before .before .before .before .before .before .before .before .before .fit .ensures p, c .before .before .before .before .before .before .before .before .before .before .before .before .before .enum-told .given .1)
+returns-4 c p =
+    after-start-at-returns-4 c .start .ensures
+    ∙ open-done lp2 _ _ _ (lent (start-at-returns-4 c) p) (lines-right (else1-at-returns-4 c)) (spacing-right (else2-at-returns-4 c))
+    (fit-at-returns-4 c .fit .ensures p) (enum-told-at-returns-4 c .enum-told .given .1)
 
 pub open-spec : {M : Type 1} → statement M
-open-spec = tie.close (tie.spec (λ c κs. search needs) (λ c κs. search needs) returns (λ c κs. search needs) (λ c κs. search needs) returns-2 fit-requires (λ c. search needs) (λ c κs. search needs) (λ c. search needs) start-requires (λ c. search needs) (λ c. search needs) (λ c. search needs) (λ c. search needs) returns-3 (λ c. search needs) (λ c. search needs) (λ c. search needs) (λ c. search needs) returns-4)
+open-spec =
+    tie.close
+    (tie.spec (λ c κs. search needs) (λ c κs. search needs) returns (λ c κs. search needs) (λ c κs. search needs) returns-2 fit-requires
+    (λ c. search needs) (λ c κs. search needs) (λ c. search needs) start-requires (λ c. search needs) (λ c. search needs) (λ c. search needs)
+    (λ c. search needs) returns-3 (λ c. search needs) (λ c. search needs) (λ c. search needs) (λ c. search needs) returns-4)

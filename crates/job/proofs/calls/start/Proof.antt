@@ -1,15 +1,28 @@
--- `calls::start` meets its contract.
+-- `calls::start` meets its contract: what is all 0 and has its length is a blank page, an empty line or an empty store.
+mod Places
 use borrow.Author.Needs.{needs}
 use mathlib.Core.Path.{_∙_}
 use Rattle.sheet.specs.Edition.{lp2}
-use Rattle.carriage.proofs.Rooms.{blanked, emptied}
-use Rattle.protocol.proofs.Taking.{unmarked}
+use Rattle.sheet.proofs.Emptying.{line-emptied, page-emptied}
+use Rattle.printer.proofs.Ready.{store-emptied}
 use Rattle.job.proofs.calls.start.Statement.{statement}
 use Rattle.job.proofs.calls.start.Tie as tie
+use Places.*
 
 returns : tie.Need-returns
 unfolding lp2
-returns c = let a = c .before .before .before .before .before .before .before .before .before .before .before .before .before .before .before .before .before .before .before .before .before .args in simp (c .new-printer .ensures, c .before .before .before .before .before .before .before .before .before .before .before .before .before .before .before .blank .ensures ∙ unmarked (a .form) (a .page .now) (c .before .before .before .before .before .before .before .before .before .before .before .before .before .before .before .before .before .before .before .before .before .pre .page), c .before .before .before .before .before .before .before .before .before .before .before .empty .ensures ∙ emptied (a .line .now) (c .before .before .before .before .before .before .before .before .before .before .before .before .before .before .before .before .before .before .before .before .before .pre .line), c .before .before .before .before .before .before .before .blank2 .ensures ∙ blanked (a .staging .now) (c .before .before .before .before .before .before .before .before .before .before .before .before .before .before .before .before .before .before .before .before .before .pre .staging), c .before .before .before .blank3 .ensures ∙ blanked (a .store .now) (c .before .before .before .before .before .before .before .before .before .before .before .before .before .before .before .before .before .before .before .before .before .pre .store))
+returns c =
+    let a = start-at-returns c .args in
+    simp (
+      c .new-printer .ensures,
+      blank-at-returns c .blank .ensures ∙ page-emptied lp2 (a .form) (a .page .now) (start-at-returns c .pre .page),
+      empty-at-returns c .empty .ensures ∙ line-emptied lp2 (a .line .now) (start-at-returns c .pre .line),
+      blank2-at-returns c .blank2 .ensures ∙ store-emptied (a .staging .now) (start-at-returns c .pre .staging),
+      c .before .before .before .blank3 .ensures ∙ store-emptied (a .store .now) (start-at-returns c .pre .store),
+    )
 
 pub start-spec : {M : Type 1} → statement M
-start-spec = tie.close (tie.spec (λ c κs. search needs) (λ c κs. search needs) (λ c κs. search needs) (λ c κs. search needs) (λ c κs. search needs) (λ c. search needs) (λ c. search needs) (λ c. search needs) (λ c. search needs) returns)
+start-spec =
+    tie.close
+    (tie.spec (λ c κs. search needs) (λ c κs. search needs) (λ c κs. search needs) (λ c κs. search needs) (λ c κs. search needs) (λ c. search needs)
+    (λ c. search needs) (λ c. search needs) (λ c. search needs) returns)

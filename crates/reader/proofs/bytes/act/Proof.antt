@@ -1,54 +1,92 @@
--- `bytes::act` meets its contract.
+-- `bytes::act` meets its contract: each arm knows what is pending, and what it calls is the rule for that.
+mod Places
 use borrow.Author.Needs.{needs}
 use mathlib.Core.Path.{_∙_}
+use Rattle.sheet.specs.Edition.{lp2}
+use Rattle.printer.specs.declared.Pending.{Pending}
 use Rattle.printer.specs.Bytes.{act}
 use Rattle.printer.specs.Given.{machine}
+use Rattle.printer.specs.Machine.{Machine}
+use Rattle.printer.specs.Steps.{Step}
+use Rattle.reader.proofs.Acting.{acted}
 use Rattle.reader.proofs.bytes.act.Statement.{statement}
 use Rattle.reader.proofs.bytes.act.Tie as tie
+use Places.*
+
+-- the memory that the call was lent, with the state that it was given
+abbrev lent : tie.Start → Machine
+lent c = let a = c .args in machine (a .p) (a .page .now) (a .line .now) (a .staging .now) (a .store .now)
+
+-- what document 01 makes of the byte, by what is pending
+abbrev acts : tie.Start → Pending → Step
+acts c q = act lp2 (c .args .font .now) q (c .args .b) (c .args .here) (lent c)
 
 returns : tie.Need-returns
 unfolding act
-returns c = let a = c .before .before .before .before .before .before .before .before .before .before .before .before .before .before .before .args in c .before .before .before .before .first-byte .ensures (a .staging .now) ∙ simp (c .before .before .before .before .before .before .before .before .enum-told .given .1)
+returns c =
+    acted (acts (start-at-returns c)) (enum-told-at-returns c .enum-told .given .1) (first-byte-at-returns c .first-byte .ensures (start-at-returns c .args .staging .now))
 
 returns-2 : tie.Need-returns-2
 unfolding act
-returns-2 c = let a = c .before .before .before .before .before .before .before .before .before .before .before .before .args in c .before .before .second-byte .ensures (a .page .now) (a .staging .now) (a .store .now) ∙ simp (c .before .before .before .before .before .pending .given .1)
+returns-2 c =
+    let a = start-at-returns-2 c .args in
+    acted (acts (start-at-returns-2 c)) (pending-at-returns-2 c .pending .given .1) (c .before .before .second-byte .ensures (a .page .now) (a .staging .now) (a .store .now))
 
 returns-3 : tie.Need-returns-3
 unfolding act
-returns-3 c = let a = c .before .before .before .before .before .before .before .before .args in c .tab-byte .ensures (machine (a .p) (a .page .now) (a .line .now) (a .staging .now) (a .store .now)) ∙ simp (c .before .enum-told2 .given .1)
+returns-3 c = acted (acts (start-at-returns-3 c)) (c .before .enum-told2 .given .1) (c .tab-byte .ensures (lent (start-at-returns-3 c)))
 
 returns-4 : tie.Need-returns-4
 unfolding act
-returns-4 c = let a = c .before .before .before .before .before .before .before .before .before .before .before .before .before .before .before .before .args in c .before .before .before .before .reset .ensures (a .page .now) (a .staging .now) ∙ simp (c .before .before .before .before .before .before .before .with-pending .ensures, c .before .before .before .before .before .before .before .before .before .pending2 .given .1)
+returns-4 c =
+    let a = start-at-returns-4 c .args in
+    acted (acts (start-at-returns-4 c)) (pending2-at-returns-4 c .pending2 .given .1)
+    (reset-at-returns-4 c .reset .ensures (a .page .now) (a .staging .now)
+    ∙ simp (with-pending-at-returns-4 c .with-pending .ensures))
 
 returns-5 : tie.Need-returns-5
 unfolding act
-returns-5 c = let a = c .before .before .before .before .before .before .before .before .before .args in c .waiting .ensures (machine (a .p) (a .page .now) (a .line .now) (a .staging .now) (a .store .now)) ∙ simp (c .before .before .pending3 .given .1)
+returns-5 c = acted (acts (start-at-returns-5 c)) (c .before .before .pending3 .given .1) (c .waiting .ensures (lent (start-at-returns-5 c)))
 
 returns-6 : tie.Need-returns-6
 unfolding act
-returns-6 c = let a = c .before .before .before .before .before .before .before .before .before .before .args in c .select .ensures (machine (a .p) (a .page .now) (a .line .now) (a .staging .now) (a .store .now)) ∙ simp (c .before .with-pending2 .ensures, c .before .before .before .pending4 .given .1)
+returns-6 c =
+    acted (acts (start-at-returns-6 c)) (c .before .before .before .pending4 .given .1)
+    (c .select .ensures (lent (start-at-returns-6 c)) ∙ simp (c .before .with-pending2 .ensures))
 
 returns-7 : tie.Need-returns-7
 unfolding act
-returns-7 c = let a = c .before .before .before .before .before .before .before .before .before .args in c .waiting2 .ensures (machine (a .p) (a .page .now) (a .line .now) (a .staging .now) (a .store .now)) ∙ simp (c .before .before .pending5 .given .1)
+returns-7 c = acted (acts (start-at-returns-7 c)) (c .before .before .pending5 .given .1) (c .waiting2 .ensures (lent (start-at-returns-7 c)))
 
 returns-8 : tie.Need-returns-8
 unfolding act
-returns-8 c = let a = c .before .before .before .before .before .before .before .before .before .before .args in c .waiting3 .ensures (machine (a .p) (a .page .now) (a .line .now) (a .staging .now) (a .store .now)) ∙ simp (c .before .high-first .ensures, c .before .before .before .pending6 .given .1)
+returns-8 c =
+    acted (acts (start-at-returns-8 c)) (c .before .before .before .pending6 .given .1)
+    (c .waiting3 .ensures (lent (start-at-returns-8 c)) ∙ simp (c .before .high-first .ensures))
 
 returns-9 : tie.Need-returns-9
 unfolding act
-returns-9 c = let a = c .before .before .before .before .before .before .before .before .before .args in c .waiting4 .ensures (machine (a .p) (a .page .now) (a .line .now) (a .staging .now) (a .store .now)) ∙ simp (c .before .before .pending7 .given .1)
+returns-9 c = acted (acts (start-at-returns-9 c)) (c .before .before .pending7 .given .1) (c .waiting4 .ensures (lent (start-at-returns-9 c)))
 
 returns-10 : tie.Need-returns-10
 unfolding act
-returns-10 c = let a = c .before .before .before .before .before .before .before .before .before .before .args in c .waiting5 .ensures (machine (a .p) (a .page .now) (a .line .now) (a .staging .now) (a .store .now)) ∙ simp (c .before .high-first2 .ensures, c .before .before .before .pending8 .given .1)
+returns-10 c =
+    acted (acts (start-at-returns-10 c)) (c .before .before .before .pending8 .given .1)
+    (c .waiting5 .ensures (lent (start-at-returns-10 c)) ∙ simp (c .before .high-first2 .ensures))
 
 returns-11 : tie.Need-returns-11
 unfolding act
-returns-11 c = let a = c .before .before .before .before .before .before .before .before .before .before .before .before .before .before .before .args in c .before .before .before .before .payload-byte .ensures (a .page .now) (a .line .now) ∙ simp (c .before .before .before .before .before .before .before .before .pending9 .given .1)
+returns-11 c =
+    let a = start-at-returns-11 c .args in
+    acted (acts (start-at-returns-11 c)) (pending9-at-returns-11 c .pending9 .given .1) (payload-byte-at-returns-11 c .payload-byte .ensures (a .page .now) (a .line .now))
 
 pub act-spec : {M : Type 1} → statement M
-act-spec = tie.close (tie.spec (λ c. search needs) (λ c κs. search needs) (λ c. search needs) (λ c κs. search needs) (λ c. search needs) (λ c κs. search needs) (λ c. search needs) (λ c κs. search needs) (λ c κs. search needs) (λ c. search needs) (λ c κs. search needs) (λ c. search needs) (λ c κs. search needs) (λ c κs. search needs) (λ c. search needs) (λ c κs. search needs) (λ c. search needs) (λ c κs. search needs) (λ c κs. search needs) (λ c. search needs) (λ c κs. search needs) (λ c. search needs) (λ c κs. search needs) (λ c κs. search needs) (λ c. search needs) (λ c κs. search needs) (λ c. search needs) (λ c. search needs) (λ c. search needs) returns (λ c. search needs) returns-2 returns-3 (λ c. search needs) (λ c. search needs) returns-4 returns-5 returns-6 returns-7 returns-8 returns-9 returns-10 (λ c. search needs) (λ c. search needs) returns-11)
+act-spec =
+    tie.close
+    (tie.spec (λ c. search needs) (λ c κs. search needs) (λ c. search needs) (λ c κs. search needs) (λ c. search needs) (λ c κs. search needs)
+    (λ c. search needs) (λ c κs. search needs) (λ c κs. search needs) (λ c. search needs) (λ c κs. search needs) (λ c. search needs)
+    (λ c κs. search needs) (λ c κs. search needs) (λ c. search needs) (λ c κs. search needs) (λ c. search needs) (λ c κs. search needs)
+    (λ c κs. search needs) (λ c. search needs) (λ c κs. search needs) (λ c. search needs) (λ c κs. search needs) (λ c κs. search needs)
+    (λ c. search needs) (λ c κs. search needs) (λ c. search needs) (λ c. search needs) (λ c. search needs) returns (λ c. search needs) returns-2
+    returns-3 (λ c. search needs) (λ c. search needs) returns-4 returns-5 returns-6 returns-7 returns-8 returns-9 returns-10 (λ c. search needs)
+    (λ c. search needs) returns-11)

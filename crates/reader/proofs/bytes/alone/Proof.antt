@@ -1,17 +1,23 @@
 -- `bytes::alone` meets its contract.
+mod Places
 use borrow.Author.Needs.{needs}
 use mathlib.Core.Path.{_∙_}
 use Rattle.printer.specs.Alone.{alone}
 use Rattle.reader.proofs.bytes.alone.Statement.{statement}
 use Rattle.reader.proofs.bytes.alone.Tie as tie
+use Places.*
 
 returns : tie.Need-returns
 unfolding alone
-returns c staging = let a = c .before .before .before .before .before .before .before .before .before .args in c .before .before .plot-byte .ensures (a .page .now) staging (a .store .now) ∙ simp (c .before .before .before .before .if1 .taken)
+returns c staging =
+    let a = start-at-returns c .args in
+    c .before .before .plot-byte .ensures (a .page .now) staging (a .store .now) ∙ simp (then1-at-returns c .if1 .taken)
 
 returns-2 : tie.Need-returns-2
 unfolding alone
-returns-2 c staging = c .before .before .before .before .text-byte .ensures staging ∙ simp (c .before .before .before .before .before .before .before .if1 .left)
+returns-2 c staging = text-byte-at-returns-2 c .text-byte .ensures staging ∙ simp (else1-at-returns-2 c .if1 .left)
 
 pub alone-spec : {M : Type 1} → statement M
-alone-spec = tie.close (tie.spec (λ c κs. search needs) (λ c κs. search needs) (λ c. search needs) returns (λ c. search needs) (λ c. search needs) returns-2)
+alone-spec =
+    tie.close
+    (tie.spec (λ c κs. search needs) (λ c κs. search needs) (λ c. search needs) returns (λ c. search needs) (λ c. search needs) returns-2)

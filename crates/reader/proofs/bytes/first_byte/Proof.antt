@@ -1,4 +1,5 @@
 -- `bytes::first_byte` meets its contract.
+mod Places
 use borrow.Author.Needs.{needs}
 use mathlib.Core.Path.{_∙_}
 use borrow.Author.Tests.{eq-eqb, ne-eqb}
@@ -6,14 +7,17 @@ use Rattle.printer.specs.Bytes.{first-byte}
 use Rattle.printer.specs.Given.{machine}
 use Rattle.reader.proofs.bytes.first_byte.Statement.{statement}
 use Rattle.reader.proofs.bytes.first_byte.Tie as tie
+use Places.*
 
 returns : tie.Need-returns
 unfolding first-byte
-returns c staging = let a = c .before .before .before .before .before .before .args in c .waiting .ensures (machine (a .p) (a .page .now) (a .line .now) staging (a .store .now)) ∙ simp (eq-eqb _ _ (c .before .if1 .taken))
+returns c staging =
+    let a = start-at-returns c .args in
+    c .waiting .ensures (machine (a .p) (a .page .now) (a .line .now) staging (a .store .now)) ∙ simp (eq-eqb _ _ (c .before .if1 .taken))
 
 returns-2 : tie.Need-returns-2
 unfolding first-byte
-returns-2 c staging = c .before .before .before .before .alone .ensures staging ∙ simp (ne-eqb _ _ (c .before .before .before .before .before .before .before .if1 .left))
+returns-2 c staging = alone-at-returns-2 c .alone .ensures staging ∙ simp (ne-eqb _ _ (else1-at-returns-2 c .if1 .left))
 
 pub first-byte-spec : {M : Type 1} → statement M
 first-byte-spec = tie.close (tie.spec (λ c κs. search needs) (λ c κs. search needs) returns (λ c. search needs) (λ c. search needs) returns-2)

@@ -25,7 +25,18 @@ returns-4 c m = c .waiting4 .ensures m ∙ simp (c .before .match .keys4)
 
 returns-5 : tie.Need-returns-5
 unfolding text-escape clear-tabs
-returns-5 c m = c .escape .ensures m ∙ simp (c .before .with-pending .ensures, ne-eqb _ _ (c .before .before .match .rest .1), ne-eqb _ _ (c .before .before .match .rest .0 .1), ne-eqb _ _ (c .before .before .match .rest .0 .0 .1), ne-eqb _ _ (c .before .before .match .rest .0 .0 .0 .1))
+returns-5 c m =
+    c .escape .ensures m
+    ∙ simp (
+      c .before .with-pending .ensures,
+      ne-eqb _ _ (c .before .before .match .rest .1),
+      ne-eqb _ _ (c .before .before .match .rest .0 .1),
+      ne-eqb _ _ (c .before .before .match .rest .0 .0 .1),
+      ne-eqb _ _ (c .before .before .match .rest .0 .0 .0 .1),
+    )
 
 pub text-escape-spec : {M : Type 1} → statement M
-text-escape-spec = tie.close (tie.spec (λ c κs. search needs) (λ c κs. search needs) (λ c κs. search needs) (λ c κs. search needs) (λ c κs. search needs) (λ c κs. search needs) (λ c κs. search needs) returns returns-2 returns-3 returns-4 returns-5)
+text-escape-spec =
+    tie.close
+    (tie.spec (λ c κs. search needs) (λ c κs. search needs) (λ c κs. search needs) (λ c κs. search needs) (λ c κs. search needs)
+    (λ c κs. search needs) (λ c κs. search needs) returns returns-2 returns-3 returns-4 returns-5)

@@ -1,4 +1,5 @@
 -- `sums::adler_numbers` meets its contract. The loop's invariant: the sum of what is left, from the halves so far, is the sum of all.
+mod Places
 use Prim.Native.Nat.{_-_, _≤_, _<_}
 use mathlib.Core.Path.{_≡_, sym, _∙_}
 use native.Mathlib.Omega.{arith}
@@ -8,15 +9,26 @@ use Rattle.replay.proofs.Summing.{numbers-more, numbers-summed}
 use borrow.Author.Needs.{needs}
 use Rattle.replay.proofs.sums.adler_numbers.Statement.{statement}
 use Rattle.replay.proofs.sums.adler_numbers.Tie as tie
+use Places.*
 
 abbrev Inv-loop : tie.InvT-loop
-Inv-loop numbers first₀ second₀ i₀ first second i = (sum-on (two-bytes numbers) 1 0 ≡ sum-on (two-bytes (drop i numbers)) first second) × (i ≤ length numbers) × (first < 65521) × (second < 65521)
+Inv-loop numbers first₀ second₀ i₀ first second i =
+    (sum-on (two-bytes numbers) 1 0 ≡ sum-on (two-bytes (drop i numbers)) first second) × (i ≤ length numbers) × (first < 65521) × (second < 65521)
 
 abbrev μ-loop : tie.MeasureT-loop
 μ-loop numbers first₀ second₀ i₀ first second i = length numbers - i
 
 loop-again : tie.Need-loop-again Inv-loop μ-loop
-loop-again c = (c .before .before .before .before .before .before .before .before .loop .inv .0 ∙ numbers-more (c .before .before .before .before .before .before .before .before .before .before .args .numbers .now) (c .before .before .before .before .before .before .before .before .loop .i) (c .before .before .before .before .before .before .before .before .loop .first) (c .before .before .before .before .before .before .before .before .loop .second) _ _ _ _ _ _ (omega arith) (c .before .before .before .before .before .high-byte .ensures .0) (c .before .before .low-byte .ensures .0) (c .before .before .before .before .reduced .ensures .0) (c .before .before .before .reduced2 .ensures .0) (c .before .reduced3 .ensures .0) (c .reduced4 .ensures .0), search needs, search needs, search needs)
+loop-again c = (
+  loop-at-loop-again c .loop .inv .0
+      ∙ numbers-more (start-at-loop-again c .args .numbers .now) (loop-at-loop-again c .loop .i) (loop-at-loop-again c .loop .first)
+      (loop-at-loop-again c .loop .second) _ _ _ _ _ _ (omega arith) (high-byte-at-loop-again c .high-byte .ensures .0)
+      (c .before .before .low-byte .ensures .0) (reduced-at-loop-again c .reduced .ensures .0) (c .before .before .before .reduced2 .ensures .0)
+      (c .before .reduced3 .ensures .0) (c .reduced4 .ensures .0),
+  search needs,
+  search needs,
+  search needs,
+)
 
 returns : tie.Need-returns Inv-loop μ-loop
 returns c = sym (c .before .loop .inv .0 ∙ numbers-summed (c .before .before .before .args .numbers .now) (c .before .loop .i) _ _ (omega arith))
@@ -24,4 +36,6 @@ returns c = sym (c .before .loop .inv .0 ∙ numbers-summed (c .before .before .
 pub adler-numbers-spec : {M : Type 1} → statement M
 adler-numbers-spec =
     tie.close
-    (tie.spec Inv-loop μ-loop (λ c. search needs) (λ c. search needs) (λ c. search needs) (λ c κs. search needs) (λ c. search needs) (λ c κs. search needs) (λ c. search needs) (λ c κs. search needs) (λ c κs. search needs) (λ c. search needs) (λ c κs. search needs) (λ c. search needs) (λ c κs. search needs) (λ c. search needs) (λ c. search needs) loop-again (λ c. search needs) (λ c. search needs) returns)
+    (tie.spec Inv-loop μ-loop (λ c. search needs) (λ c. search needs) (λ c. search needs) (λ c κs. search needs) (λ c. search needs)
+    (λ c κs. search needs) (λ c. search needs) (λ c κs. search needs) (λ c κs. search needs) (λ c. search needs) (λ c κs. search needs)
+    (λ c. search needs) (λ c κs. search needs) (λ c. search needs) (λ c. search needs) loop-again (λ c. search needs) (λ c. search needs) returns)

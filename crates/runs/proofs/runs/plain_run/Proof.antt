@@ -1,14 +1,19 @@
 -- `runs::plain_run` meets its contract.
+mod Places
 use borrow.Author.Needs.{needs}
 use Rattle.runs.proofs.Leading.{leads-nowhere}
 use Rattle.runs.proofs.runs.plain_run.Statement.{statement}
 use Rattle.runs.proofs.runs.plain_run.Tie as tie
+use Places.*
 
 returns : tie.Need-returns
-returns c page staging = let a = c .before .before .before .before .before .before .before .before .before .args in c .before .before .plot-run .ensures (a .font .now) page staging (a .store .now)
+returns c page staging = let a = start-at-returns c .args in c .before .before .plot-run .ensures (a .font .now) page staging (a .store .now)
 
 returns-2 : tie.Need-returns-2
 returns-2 c page staging = simp (c .none .ensures) (leads-nowhere _ _ _)
 
 pub plain-run-spec : {M : Type 1} → statement M
-plain-run-spec = tie.close (tie.spec (λ c κs. search needs) (λ c. search needs) returns (λ c κs. search needs) returns-2 (λ c κs. search needs) (λ c. search needs) (λ c. search needs))
+plain-run-spec =
+    tie.close
+    (tie.spec (λ c κs. search needs) (λ c. search needs) returns (λ c κs. search needs) returns-2 (λ c κs. search needs) (λ c. search needs)
+    (λ c. search needs))

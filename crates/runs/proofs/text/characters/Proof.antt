@@ -1,4 +1,5 @@
 -- `text::characters` meets its contract.
+mod Places
 use borrow.Author.Needs.{needs}
 use Prim.Native.Nat.{ℕ, _+_, _-_, _≤_, _<_}
 use mathlib.Core.Bool.{cond}
@@ -17,6 +18,7 @@ use Rattle.runs.proofs.Leading.{leads-nowhere}
 use Rattle.runs.proofs.Typed.{entering, roomy, stays-on, typed-on}
 use Rattle.runs.proofs.text.characters.Statement.{statement}
 use Rattle.runs.proofs.text.characters.Tie as tie
+use Places.*
 
 -- k characters are entered
 record Inv (piece line₀ line glyphs : List ℕ) (n : ℕ) (q₀ q : Printer) (k : ℕ) : Type 0 where
@@ -37,52 +39,68 @@ abbrev μ-loop : tie.MeasureT-loop
 
 loop-holds : tie.Need-loop-holds Inv-loop μ-loop
 loop-holds c =
-    let s = c .before .before .before .before .before .before in
-    record { typing = s .pre .0; style = refl; column = s .pre .1; within = omega arith; counted = omega arith; kept = refl; leads = λ page staging store font e. leads-nowhere font _ _ }
+    let s = start-at-loop-holds c in
+    record {
+      typing = s .pre .0;
+      style = refl;
+      column = s .pre .1;
+      within = omega arith;
+      counted = omega arith;
+      kept = refl;
+      leads = λ page staging store font e. leads-nowhere font _ _;
+    }
 
 shared-slice-read-b : tie.Need-shared-slice-read-b Inv-loop μ-loop
-shared-slice-read-b c = omega (arith, c .before .before .before .before .before .before .before .before .before, c .before .loop-test)
+shared-slice-read-b c = omega (arith, start-at-add-next c, c .before .loop-test)
 
 add-next : tie.Need-add-next Inv-loop μ-loop
-add-next c = omega (arith, c .before .before .loop, c .before .before .before .cell .ensures, cell-bounds (c .before .before .before .before .before .before .before .before .before .args .p .style .elongated))
+add-next c = omega (arith, c .before .before .loop, c .before .before .before .cell .ensures, cell-bounds (start-at-add-next c .args .p .style .elongated))
 
 same-length : tie.Need-same-length Inv-loop μ-loop
-same-length c = c .before .before .before .before .loop .inv .kept
+same-length c = loop-at-returns c .loop .inv .kept
 
 returns : tie.Need-returns Inv-loop μ-loop
-returns c = c .before .before .before .before .loop .inv .leads
+returns c = loop-at-returns c .loop .inv .leads
 
 enter-requires : tie.Need-enter-requires Inv-loop μ-loop
 enter-requires c κs =
-    let s = c .before .before .before .before .before .before .before .before .before .before .before .before .before in
-    let b = entering _ _ _ (sym (c .before .before .before .enters .ensures) ∙ not-false (c .before .before .before .enters .result) (c .before .before .if1 .left)) in
-    let room = roomy (s .args .p .style) (c .before .before .before .before .before .before .before .cell .ensures) (c .before .before .before .before .before .before .before .before .width .ensures) b (c .before .before .before .before .before .before .loop .inv .kept ∙ s .pre .2) (s .pre .3) in
+    let s = start-at-enter-requires c in
+    let b =
+    entering _ _ _
+    (sym (c .before .before .before .enters .ensures) ∙ not-false (c .before .before .before .enters .result) (c .before .before .if1 .left)) in
+    let room =
+    roomy (s .args .p .style) (cell-at-enter-requires c .cell .ensures) (width-at-enter-requires c .width .ensures) b
+    (loop-at-enter-requires c .loop .inv .kept ∙ s .pre .2) (s .pre .3) in
     simp (c .code .ensures) room
 
 add-q : tie.Need-add-q Inv-loop μ-loop
-add-q c = omega (arith, c .before .before .before .before .before .before .before .before .before .before .before .before .loop .inv .counted, c .before .before .before .before .before .before .before .before .before .before .before .loop-test, c .before .before .before .before .before .before .before .before .before .before .before .before .before .before .before .before .before .before .before .pre .5)
+add-q c = omega (arith, loop-at-loop-again c .loop .inv .counted, in-loop-at-loop-again c .loop-test, start-at-loop-again c .pre .5)
 
 add-k : tie.Need-add-k Inv-loop μ-loop
-add-k c = omega (arith, c .before .before .before .before .before .before .before .before .before .before .before .loop-test, c .before .before .before .before .before .before .before .before .before .before .before .before .before .before .before .before .before .before .before)
+add-k c = omega (arith, in-loop-at-loop-again c .loop-test, start-at-loop-again c)
 
 loop-less : tie.Need-loop-less Inv-loop μ-loop
-loop-less c = omega (arith, c .before .before .before .before .before .before .before .before .before .before .before .loop-test)
+loop-less c = omega (arith, in-loop-at-loop-again c .loop-test)
 
 loop-again : tie.Need-loop-again Inv-loop μ-loop
 loop-again c =
-    let s = c .before .before .before .before .before .before .before .before .before .before .before .before .before .before .before .before .before .before .before in
-    let l = c .before .before .before .before .before .before .before .before .before .before .before .before .loop in
-    let b = entering _ _ _ (sym (c .before .before .before .before .before .before .before .before .before .enters .ensures) ∙ not-false (c .before .before .before .before .before .before .before .before .before .enters .result) (c .before .before .before .before .before .before .before .before .if1 .left)) in
-    let inside : l .k < length (s .args .piece .now) = omega (arith, c .before .before .before .before .before .before .before .before .before .before .before .loop-test, s .pre .4) in
-    let room : l .q .job < limit = omega (arith, l .inv .counted, c .before .before .before .before .before .before .before .before .before .before .before .loop-test, s .pre .5) in
+    let s = start-at-loop-again c in
+    let l = loop-at-loop-again c .loop in
+    let b =
+    entering _ _ _
+    (sym (enters-at-loop-again c .enters .ensures) ∙ not-false (enters-at-loop-again c .enters .result) (else1-at-loop-again c .if1 .left)) in
+    let inside : l .k < length (s .args .piece .now) = omega (arith, in-loop-at-loop-again c .loop-test, s .pre .4) in
+    let room : l .q .job < limit = omega (arith, l .inv .counted, in-loop-at-loop-again c .loop-test, s .pre .5) in
     record {
       typing = record { pending = l .inv .typing .pending; plotting = l .inv .typing .plotting; plotted = l .inv .typing .plotted };
       style = l .inv .style;
-      column = stays-on (s .args .p .style) (c .before .before .before .before .before .before .before .before .before .before .before .before .before .cell .ensures) (c .before .before .before .before .before .before .before .before .before .before .before .before .before .before .width .ensures) b;
-      within = omega (arith, c .before .before .before .before .before .before .before .before .before .before .before .loop-test);
+      column = stays-on (s .args .p .style) (cell-at-loop-again c .cell .ensures) (width-at-loop-again c .width .ensures) b;
+      within = omega (arith, in-loop-at-loop-again c .loop-test);
       counted = omega (arith, l .inv .counted);
-      kept = c .before .before .before .before .before .enter .kept .0 ∙ l .inv .kept;
-      leads = λ page staging store font e. typed-on (s .args .p .style) (c .before .before .before .before .before .before .before .before .before .before .before .before .before .cell .ensures) (c .before .before .before .before .before .before .before .before .before .before .before .before .before .before .width .ensures) (l .inv .leads page staging store font e) (l .inv .typing) (l .inv .style) inside room b e (c .before .before .before .before .before .enter .ensures ∙ simp (c .before .before .before .before .before .before .code .ensures));
+      kept = enter-at-loop-again c .enter .kept .0 ∙ l .inv .kept;
+      leads = λ page staging store font e. typed-on (s .args .p .style) (cell-at-loop-again c .cell .ensures) (width-at-loop-again c .width .ensures)
+          (l .inv .leads page staging store font e) (l .inv .typing) (l .inv .style) inside room b e
+          (enter-at-loop-again c .enter .ensures ∙ simp (code-at-loop-again c .code .ensures));
     }
 
 same-length-2 : tie.Need-same-length-2 Inv-loop μ-loop
@@ -94,22 +112,5 @@ returns-2 c = c .before .loop .inv .leads
 pub characters-spec : {M : Type 1} → statement M
 characters-spec =
     tie.close
-    (tie.spec
-    Inv-loop
-    μ-loop
-    (λ c κs. search needs)
-    (λ c κs. search needs)
-    loop-holds
-    shared-slice-read-b
-    add-next
-    (λ c κs. search needs)
-    same-length
-    returns
-    (λ c κs. search needs)
-    enter-requires
-    add-q
-    add-k
-    loop-less
-    loop-again
-    same-length-2
-    returns-2)
+    (tie.spec Inv-loop μ-loop (λ c κs. search needs) (λ c κs. search needs) loop-holds shared-slice-read-b add-next (λ c κs. search needs) same-length
+    returns (λ c κs. search needs) enter-requires add-q add-k loop-less loop-again same-length-2 returns-2)

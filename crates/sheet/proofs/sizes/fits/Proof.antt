@@ -8,9 +8,6 @@ use Rattle.sheet.proofs.Units.{room, no-room}
 use Rattle.sheet.proofs.sizes.fits.Statement.{statement}
 use Rattle.sheet.proofs.sizes.fits.Tie as tie
 
-form-rows-requires : tie.Need-form-rows-requires
-form-rows-requires c κs = search needs
-
 returns : tie.Need-returns
 unfolding fits
 returns c =
@@ -26,4 +23,4 @@ returns-2 c =
     no-room row (rows .result) (c .if1 .left) ∙ ap (leb (row + 9)) (rows .ensures .0)
 
 pub fits-spec : {M : Type 1} → statement M
-fits-spec = tie.close (tie.spec form-rows-requires returns returns-2)
+fits-spec = tie.close (tie.spec (λ c κs. search needs) returns returns-2)

@@ -5,12 +5,6 @@ use Rattle.sheet.specs.Edition.{lp2, lp2-width}
 use Rattle.sheet.proofs.sizes.width.Statement.{statement}
 use Rattle.sheet.proofs.sizes.width.Tie as tie
 
-enum-told : tie.Need-enum-told
-enum-told c = search needs
-
-enum-told-2 : tie.Need-enum-told-2
-enum-told-2 c = search needs
-
 returns : tie.Need-returns
 unfolding lp2
 returns c = sym (ap lp2-width (c .enum-told .given .1))
@@ -20,4 +14,4 @@ unfolding lp2
 returns-2 c = sym (ap lp2-width (c .enum-told2 .given .1))
 
 pub width-spec : {M : Type 1} → statement M
-width-spec = tie.close (tie.spec enum-told enum-told-2 returns returns-2)
+width-spec = tie.close (tie.spec (λ c. search needs) (λ c. search needs) returns returns-2)

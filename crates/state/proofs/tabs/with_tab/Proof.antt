@@ -12,7 +12,12 @@ returns c = simp (lt-ltb (c .before .before .args .above) 64 (omega arith), c .p
 
 returns-2 : tie.Need-returns-2
 unfolding with-tab
-returns-2 c = simp (le-ltb (c .before .before .before .args .above) 64 (omega arith), lt-ltb (c .before .before .before .args .above) 128 (omega arith), c .put-bit2 .ensures)
+returns-2 c =
+    simp (
+      le-ltb (c .before .before .before .args .above) 64 (omega arith),
+      lt-ltb (c .before .before .before .args .above) 128 (omega arith),
+      c .put-bit2 .ensures,
+    )
 
 returns-3 : tie.Need-returns-3
 unfolding with-tab

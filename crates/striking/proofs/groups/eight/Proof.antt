@@ -1,4 +1,5 @@
 -- `groups::eight` meets its contract.
+mod Places
 use mathlib.Core.Path.{sym, ap, _∙_}
 use native.Mathlib.Omega.{arith}
 use lib.ListN.{take, drop}
@@ -11,66 +12,51 @@ use Rattle.striking.proofs.Grouping.{none-set}
 use Rattle.striking.proofs.Striking.{below-store, eight-below, at-top, byte-top, normal-fill, compressed-fill}
 use Rattle.striking.proofs.groups.eight.Statement.{statement}
 use Rattle.striking.proofs.groups.eight.Tie as tie
+use Places.*
 
 grid-requires : tie.Need-grid-requires
-grid-requires c κs = omega (arith, c .before .before .before .before .pre .1 .1, below-store (c .before .before .before .before .args .pitch))
-
-mul-at : tie.Need-mul-at
-mul-at c = search needs
-
-add-at : tie.Need-add-at
-add-at c = search needs
-
-enum-told : tie.Need-enum-told
-enum-told c = search needs
+grid-requires c κs = omega (arith, start-at-grid-requires c .pre .1 .1, below-store (start-at-grid-requires c .args .pitch))
 
 eight-normal-requires : tie.Need-eight-normal-requires
 eight-normal-requires c κs =
-    let a = c .before .before .before .before .before .before .before .before .before .before .args in
-    let pre = c .before .before .before .before .before .before .before .before .before .before .pre in
+    let a = start-at-eight-normal-requires c .args in
+    let pre = start-at-eight-normal-requires c .pre in
     let told = c .before .enum-told .given .1 in
-    let here = ap (λ (g : Grid). g .0) (c .before .before .before .before .before .grid .ensures) in
+    let here = ap (λ (g : Grid). g .0) (grid-at-eight-normal-requires c .grid .ensures) in
     let width = ap (λ (p : Pitch). lp2 .width p) told in
     let place = ap (λ (p : Pitch). lp2 .grid p (a .c) .0) told in
     let fill = normal-fill (a .c) (pre .1 .0) (omega (arith, pre .1 .1, width)) in
     let inside = eight-below (a .pitch) (a .c) (pre .1 .0) (pre .1 .1) in
     (omega (arith, fill, here, place, pre .0 .rows), omega (arith, inside, below-store (a .pitch), pre .0 .full))
 
-enum-told-2 : tie.Need-enum-told-2
-enum-told-2 c = search needs
-
 eight-compressed-requires : tie.Need-eight-compressed-requires
 eight-compressed-requires c κs =
-    let a = c .before .before .before .before .before .before .before .before .before .before .args in
-    let pre = c .before .before .before .before .before .before .before .before .before .before .pre in
+    let a = start-at-eight-compressed-requires c .args in
+    let pre = start-at-eight-compressed-requires c .pre in
     let told = c .before .enum-told2 .given .1 in
-    let here = ap (λ (g : Grid). g .0) (c .before .before .before .before .before .grid .ensures) in
+    let here = ap (λ (g : Grid). g .0) (grid-at-eight-compressed-requires c .grid .ensures) in
     let width = ap (λ (p : Pitch). lp2 .width p) told in
     let place = ap (λ (p : Pitch). lp2 .grid p (a .c) .0) told in
     let fill = compressed-fill (a .c) (pre .1 .0) (omega (arith, pre .1 .1, width)) in
     let inside = eight-below (a .pitch) (a .c) (pre .1 .0) (pre .1 .1) in
     (omega (arith, fill, here, place, pre .0 .rows), omega (arith, inside, below-store (a .pitch), pre .0 .full))
 
-same-length : tie.Need-same-length
-same-length c = search needs
-
 returns-2 : tie.Need-returns-2
 returns-2 c =
-    let a = c .before .before .before .before .before .before .before .before .before .before .before .before .before .args in
-    let told = c .before .before .before .before .enum-told .given .1 in
-    let here = ap (λ (g : Grid). g .0) (c .before .before .before .before .before .before .before .before .grid .ensures) in
-    c .before .before .eight-normal .ensures (a .row) (byte-top _ _ (a .row) (a .c) _ told (omega (arith, here, at-top (a .pitch) (a .c) (c .before .before .before .before .before .before .before .before .before .before .before .before .before .pre .1 .0))))
+    let a = start-at-returns-2 c .args in
+    let told = enum-told-at-returns-2 c .enum-told .given .1 in
+    let here = ap (λ (g : Grid). g .0) (grid-at-returns-2 c .grid .ensures) in
+    c .before .before .eight-normal .ensures (a .row)
+    (byte-top _ _ (a .row) (a .c) _ told (omega (arith, here, at-top (a .pitch) (a .c) (start-at-returns-2 c .pre .1 .0))))
     ∙ ap (λ (p : Pitch). blacken-all (a .page .now) (line-marks lp2 (take 8 (drop (a .c) (a .line .now))) p (a .row) (a .c))) (sym told)
-
-same-length-2 : tie.Need-same-length-2
-same-length-2 c = search needs
 
 returns-3 : tie.Need-returns-3
 returns-3 c =
-    let a = c .before .before .before .before .before .before .before .before .before .before .before .before .before .args in
-    let told = c .before .before .before .before .enum-told2 .given .1 in
-    let here = ap (λ (g : Grid). g .0) (c .before .before .before .before .before .before .before .before .grid .ensures) in
-    c .before .before .eight-compressed .ensures (a .row) (byte-top _ _ (a .row) (a .c) _ told (omega (arith, here, at-top (a .pitch) (a .c) (c .before .before .before .before .before .before .before .before .before .before .before .before .before .pre .1 .0))))
+    let a = start-at-returns-3 c .args in
+    let told = enum-told2-at-returns-3 c .enum-told2 .given .1 in
+    let here = ap (λ (g : Grid). g .0) (grid-at-returns-3 c .grid .ensures) in
+    c .before .before .eight-compressed .ensures (a .row)
+    (byte-top _ _ (a .row) (a .c) _ told (omega (arith, here, at-top (a .pitch) (a .c) (start-at-returns-3 c .pre .1 .0))))
     ∙ ap (λ (p : Pitch). blacken-all (a .page .now) (line-marks lp2 (take 8 (drop (a .c) (a .line .now))) p (a .row) (a .c))) (sym told)
 
 any-wires-requires : tie.Need-any-wires-requires
@@ -81,23 +67,11 @@ any-wires-requires c κs =
 
 returns : tie.Need-returns
 returns c =
-    let a = c .before .before .before .before .args in
+    let a = start-at-returns c .args in
     none-set (take 8 (drop (a .c) (a .line .now))) (a .page .now) (a .pitch) (a .row) (a .c) (sym (c .before .any-wires .ensures) ∙ c .if1 .taken)
 
 pub eight-spec : {M : Type 1} → statement M
 eight-spec =
     tie.close
-    (tie.spec
-    any-wires-requires
-    returns
-    grid-requires
-    mul-at
-    add-at
-    enum-told
-    eight-normal-requires
-    enum-told-2
-    eight-compressed-requires
-    same-length
-    returns-2
-    same-length-2
-    returns-3)
+    (tie.spec any-wires-requires returns grid-requires (λ c. search needs) (λ c. search needs) (λ c. search needs) eight-normal-requires
+    (λ c. search needs) eight-compressed-requires (λ c. search needs) returns-2 (λ c. search needs) returns-3)

@@ -1,0 +1,12 @@
+-- `new_printer` meets its contract.
+use borrow.Author.Needs.{needs}
+use Rattle.printer.specs.Tabs.{no-tabs}
+use Rattle.answers.proofs.new_printer.Statement.{statement}
+use Rattle.answers.proofs.new_printer.Tie as tie
+
+returns : tie.Need-returns
+unfolding no-tabs
+returns c = search needs
+
+pub new-printer-spec : {M : Type 1} → statement M
+new-printer-spec = tie.close (tie.spec returns)

@@ -1,0 +1,142 @@
+// What the calls answer: which of what is lent doesn't fit, the state at the start of a job, and what a call gives back.
+ghost use mathlib.Core.Path.{_≡_};
+ghost use Prim.Native.Nat.{_+_, _≤_};
+ghost use Rattle.sheet.specs.Edition.{lp2};
+ghost use Rattle.printer.specs.declared.Printer.{Printer};
+ghost use Rattle.printer.specs.Given.{machine};
+ghost use Rattle.printer.specs.Machine.{new-printer, shut};
+ghost use Rattle.protocol.specs.Calls.{fit};
+ghost use Rattle.protocol.specs.Given.{answer-to, is-quiet, fed};
+use printer::Event;
+use printer::Head;
+use printer::Pending;
+use printer::Printer;
+use printer::Stepped;
+use printer::Style;
+use printer::TabSet;
+use protocol::Answer;
+use protocol::Fed;
+use protocol::Fit;
+use protocol::Lent;
+use protocol::Opened;
+use sheet::Form;
+use sheet::Pitch;
+use sheet::Row;
+use sheet::sizes::page_bytes;
+
+// The first of what is lent that has not its exact length.
+pub fn fit(form: Form, page: &[u8], line: &[u16], staging: &[u8], store: &[u8], font: &[u8]) -> Fit
+    requires { ⌜ form .lines ≤ 99 ⌝ }
+    ensures { λ r. ⌜ ((p : Printer) → r ≡ fit lp2 form (now (font .entry)) (machine p (now (page .entry)) (now (line .entry)) (now (staging .entry)) (now (store .entry)))) ⌝ }
+{
+    if page.len() != page_bytes(form) {
+        return Fit::Wrong(Lent::Page);
+    }
+    if line.len() != 2200 {
+        return Fit::Wrong(Lent::LineStore);
+    }
+    if staging.len() != 2048 {
+        return Fit::Wrong(Lent::Staging);
+    }
+    if store.len() != 2048 {
+        return Fit::Wrong(Lent::DownloadStore);
+    }
+    if font.len() != 2048 {
+        return Fit::Wrong(Lent::Font);
+    }
+    Fit::Right
+}
+
+// The state at the start of a job.
+pub fn new_printer(form: Form) -> Printer
+    ensures { λ r. ⌜ r ≡ new-printer form ⌝ }
+{
+    let head = Head {
+        row: Row(0),
+        column: 0,
+        fresh: true,
+        plotted: false,
+        plotting: false,
+    };
+    let style = Style {
+        pitch: Pitch::Normal,
+        elongated: false,
+        underscore: false,
+        downloaded: false,
+    };
+    let tabs = TabSet { low: 0, high: 0 };
+    Printer {
+        form,
+        job: 0,
+        pending: Pending::Nothing,
+        head,
+        style,
+        tabs,
+    }
+}
+
+// A refused opening, with the shut state.
+pub fn unopened(answer: Answer) -> Opened
+    ensures { λ r. ⌜ r ≡ record { printer = shut; answer = answer } ⌝ }
+{
+    let form = Form {
+        lines: 0,
+        spacing: 0,
+    };
+    Opened {
+        printer: new_printer(form),
+        answer,
+    }
+}
+
+// Nothing is to be told of a byte.
+pub fn is_quiet(event: Event) -> bool
+    ensures { λ r. ⌜ r ≡ is-quiet event ⌝ }
+{
+    match event {
+        Event::Quiet => true,
+        Event::Finished => false,
+        Event::Noted(_, _) => false,
+        Event::Guard => false,
+    }
+}
+
+// What a feeding gives back.
+pub fn given(printer: Printer, answer: Answer, taken: usize) -> Fed
+    ensures { λ r. ⌜ r ≡ fed printer answer taken ⌝ }
+{
+    Fed {
+        printer,
+        answer,
+        taken,
+    }
+}
+
+// The answer of a call that has taken n bytes before the one that came to an event. A guard's byte is not taken, and the state is the one before it.
+pub fn answer_to(p: Printer, s: Stepped, n: usize) -> Fed
+    requires { ⌜ n + 1 ≤ 18446744073709551615 ⌝ }
+    ensures { λ r. ⌜ r ≡ answer-to (s .event) p (s .printer) n ⌝ }
+{
+    let after = s.printer;
+    let event = s.event;
+    match event {
+        Event::Quiet => given(after, Answer::Done, n + 1),
+        Event::Finished => given(after, Answer::Finished, n + 1),
+        Event::Noted(fault, place) => given(after, Answer::Noted(fault, place), n + 1),
+        Event::Guard => given(p, Answer::Guarded, n),
+    }
+}
+
+// The count of the bytes taken, with those of the piece that were taken before.
+pub fn counted(f: Fed, before: usize) -> Fed
+    requires { ⌜ before + f .taken ≤ 18446744073709551615 ⌝ }
+    ensures { λ r. ⌜ r ≡ fed (f .printer) (f .answer) (before + f .taken) ⌝ }
+{
+    let printer = f.printer;
+    let answer = f.answer;
+    Fed {
+        printer,
+        answer,
+        taken: before + f.taken,
+    }
+}

@@ -1,0 +1,16 @@
+-- The places that the proof of `calls::clocktoad_open` names. Made by tools/places; nobody has to read it.
+use Rattle.clocktoad.proofs.calls.clocktoad_open.Tie as tie
+
+abbrev pub else1-at-returns-2 : tie.After-answer-number → tie.Else1
+else1-at-returns-2 c = c .before .before .before .before .before .before .before .before .before .before .before .before .before .before .before
+    .before .before .before .before
+
+abbrev pub open-at-returns-2 : tie.After-answer-number → tie.After-open
+open-at-returns-2 c = c .before .before .before .before .before .before .before .before .before .before .before .before .before .before
+
+abbrev pub start-at-returns : tie.Then1 → tie.Start
+start-at-returns c = c .before .before .before .before .before .before .before
+
+abbrev pub start-at-returns-2 : tie.After-answer-number → tie.Start
+start-at-returns-2 c = c .before .before .before .before .before .before .before .before .before .before .before .before .before .before .before
+    .before .before .before .before .before .before .before .before .before .before .before

@@ -1,0 +1,8 @@
+-- The places that the proof of `runs::run` names. Made by tools/places; nobody has to read it.
+use Rattle.runs.proofs.runs.run.Tie as tie
+
+abbrev pub start-at-returns : tie.After-slice-known3 → tie.Start
+start-at-returns c = c .before .before .before .before .before .before .before .before .before .before .before .before
+
+abbrev pub start-at-returns-2 : tie.After-slice-known4 → tie.Start
+start-at-returns-2 c = c .before .before .before .before .before .before .before .before .before .before .before .before .before

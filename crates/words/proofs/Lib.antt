@@ -1,0 +1,4 @@
+-- What is true of states kept as words.
+pub mod Ranges
+pub mod Kept
+pub mod Writing

@@ -1,0 +1,70 @@
+-- The ranges of a state's words.
+use Prim.Native.Nat.{ℕ, suc, _+_, _-_, _≤_, _<_}
+use mathlib.Core.Bool.{true, _&&_, and-eq-true-iff}
+use mathlib.Core.List.{List}
+use mathlib.Core.Path.{_≡_, ap, sym, _∙_}
+use native.Mathlib.Omega.{arith}
+use borrow.Author.Tests.{leb-true}
+use lib.Dec.{leb}
+use lib.ListN.{drop, getD, length, take}
+use lib.Seq.{drop-cons}
+use Rattle.words.specs.Words.{at-most, is-state, part}
+
+-- one word more of a part
+part-turn : (m k n : ℕ) (ws : List ℕ) → k < length ws → at-most m (take (suc n) (drop k ws)) ≡ (leb (getD ws k 0) m && at-most m (take n (drop (suc k) ws)))
+unfolding at-most
+part-turn m k n ws h = simp (drop-cons ws k 0 h)
+
+pub part-next : (m k n i : ℕ) (ws : List ℕ) → i < n → k + i < length ws
+    → at-most m (part (k + i) (n - i) ws) ≡ (leb (getD ws (k + i) 0) m && at-most m (part (k + (i + 1)) (n - (i + 1)) ws))
+part-next m k n i ws l h =
+    let e : n - i ≡ suc (n - (i + 1)) = omega arith in
+    let f : suc (k + i) ≡ k + (i + 1) = omega arith in
+    ap (λ (j : ℕ). at-most m (part (k + i) j ws)) e
+    ∙ part-turn m (k + i) (n - (i + 1)) ws h
+    ∙ ap (λ (j : ℕ). leb (getD ws (k + i) 0) m && at-most m (take (n - (i + 1)) (drop j ws))) f
+
+pub part-start : (m k n : ℕ) (ws : List ℕ) → at-most m (part k n ws) ≡ at-most m (part (k + 0) (n - 0) ws)
+part-start m k n ws =
+    let e : k ≡ k + 0 = omega arith in
+    let f : n ≡ n - 0 = omega arith in
+    ap (λ (j : ℕ). at-most m (part j n ws)) e ∙ ap (λ (j : ℕ). at-most m (part (k + 0) j ws)) f
+
+pub part-end : (m k n i : ℕ) (ws : List ℕ) → n ≤ i → at-most m (part (k + i) (n - i) ws) ≡ true
+unfolding at-most
+part-end m k n i ws l = let e : n - i ≡ 0 = omega arith in simp e
+
+-- a part whose words are in range has its first in range, and so the next
+first : (m k n : ℕ) (ws : List ℕ) → k < length ws → at-most m (take (suc n) (drop k ws)) ≡ true → (getD ws k 0 ≤ m) × (at-most m (take n (drop (suc k) ws)) ≡ true)
+first m k n ws h q =
+    let both = and-eq-true-iff (leb (getD ws k 0) m) (at-most m (take n (drop (suc k) ws))) .0 (sym (part-turn m k n ws h) ∙ q) in
+    (leb-true _ _ (both .0), both .1)
+
+-- what a state's words are known to be
+pub record InRange (ws : List ℕ) : Type 0 where
+  pub job : getD ws 2 0 ≤ 4294967295
+  pub place : getD ws 15 0 ≤ 4294967295
+  pub byte : getD ws 16 0 ≤ 255
+  pub count : getD ws 17 0 ≤ 65535
+  pub address : getD ws 18 0 ≤ 65535
+  pub taken : getD ws 19 0 ≤ 65535
+
+pub in-range : (ws : List ℕ) → length ws ≡ 20 → is-state ws ≡ true → InRange ws
+unfolding is-state
+in-range ws l q =
+    let a = and-eq-true-iff _ _ .0 q in
+    let b = and-eq-true-iff _ _ .0 (a .0) in
+    let c = and-eq-true-iff _ _ .0 (b .0) in
+    let d = and-eq-true-iff _ _ .0 (c .0) in
+    let e = and-eq-true-iff _ _ .0 (d .0) in
+    let x = first 65535 17 2 ws (omega arith) (a .1) in
+    let y = first 65535 18 1 ws (omega arith) (x .1) in
+    let z = first 65535 19 0 ws (omega arith) (y .1) in
+    record {
+      job = first 4294967295 2 0 ws (omega arith) (e .0) .0;
+      place = first 4294967295 15 0 ws (omega arith) (c .1) .0;
+      byte = first 255 16 0 ws (omega arith) (b .1) .0;
+      count = x .0;
+      address = y .0;
+      taken = z .0;
+    }

@@ -1,0 +1,2 @@
+-- A state kept as words.
+pub mod Words
