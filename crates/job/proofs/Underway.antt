@@ -31,15 +31,19 @@ pub at-start : {font piece : List ℕ} {m : Machine} → Ready lp2 m → Underwa
 at-start h = record { ready = h; within = omega arith; same = more-zero _ }
 
 -- what a run asks for
-pub writable : {p : Printer} {page line staging store font : List ℕ} → Ready lp2 (machine p page line staging store) → length font ≡ 2048 → Writable p line store font
-writable {p} {page} {line} {staging} {store} {font} h f = let r : Room p page line staging store font = ready-room h f in record { column = r .column; line = r .line; store = r .store; resident = r .resident }
+pub writable : {p : Printer} {page line staging store font : List ℕ} → Ready lp2 (machine p page line staging store) → length font ≡ 2048
+    → Writable p line store font
+writable {p} {page} {line} {staging} {store} {font} h f =
+    let r : Room p page line staging store font = ready-room h f in
+    record { column = r .column; line = r .line; store = r .store; resident = r .resident }
 
 -- what is left of a piece, as a part of it
 pub left-over : (piece : List ℕ) (i : ℕ) → take (length piece - i) (drop i piece) ≡ drop i piece
 left-over piece i = take-all (length piece - i) (drop i piece) (simp length-drop (omega arith))
 
 more-more : (i t : ℕ) (f : Feeding) → more i (more t f) ≡ more (i + t) f
-more-more i t f = let e : i + (t + f .taken) ≡ i + t + f .taken = omega arith in ap (λ (n : ℕ). record { answer = f .answer; taken = n; machine = f .machine }) e
+more-more i t f =
+    let e : i + (t + f .taken) ≡ i + t + f .taken = omega arith in ap (λ (n : ℕ). record { answer = f .answer; taken = n; machine = f .machine }) e
 
 module _ {font piece : List ℕ} {m₀ m : Machine} {i : ℕ} (h : Underway font piece m₀ m i) where
   -- a run more
@@ -70,7 +74,8 @@ module _ {font piece : List ℕ} {m₀ m : Machine} {i : ℕ} (h : Underway font
           }
 
       pub told : is-quiet (s .event) ≡ false → (p : Printer)
-          → take-bytes lp2 font piece m₀ ≡ given-feeding (answer-to (s .event) p (s .machine .printer) i) (s .machine .page) (s .machine .line) (s .machine .staging) (s .machine .store)
+          → take-bytes lp2 font piece m₀
+          ≡ given-feeding (answer-to (s .event) p (s .machine .printer) i) (s .machine .page) (s .machine .line) (s .machine .staging) (s .machine .store)
       told n p =
           let v : Allowed (s .event) = subst (λ (t : Step). Allowed (t .event)) (sym is) (step-fine (h .ready) font (getD piece i 0) .allowed) in
           h .same ∙ taken-out font piece i m s is l room n v p

@@ -43,7 +43,8 @@ fn start(
     store: &mut [u8],
 ) -> Opened
     requires { ⌜ Sized lp2 form (now page) (now line) (now staging) (now store) ⌝ }
-    ensures { λ r. ⌜ given-opening r (now (page .exit)) (now (line .exit)) (now (staging .exit)) (now (store .exit)) ≡ record { answer = Answer.Done; machine = machine (new-printer form) (blank-page lp2 form) (empty-line lp2) empty-store empty-store } ⌝ }
+    ensures { λ r. ⌜ given-opening r (now (page .exit)) (now (line .exit)) (now (staging .exit)) (now (store .exit))
+        ≡ record { answer = Answer.Done; machine = machine (new-printer form) (blank-page lp2 form) (empty-line lp2) empty-store empty-store } ⌝ }
 {
     blank(page);
     empty(line);
@@ -65,7 +66,9 @@ pub fn open(
     store: &mut [u8],
     font: &[u8],
 ) -> Opened
-    ensures { λ r. ⌜ ((p : Printer) → given-opening r (now (page .exit)) (now (line .exit)) (now (staging .exit)) (now (store .exit)) ≡ opening lp2 lines spacing (now (font .entry)) (machine p (now (page .entry)) (now (line .entry)) (now (staging .entry)) (now (store .entry)))) ⌝ }
+    ensures { λ r. ⌜ ((p : Printer) → given-opening r (now (page .exit)) (now (line .exit)) (now (staging .exit)) (now (store .exit))
+        ≡ opening lp2 lines spacing (now (font .entry))
+        (machine p (now (page .entry)) (now (line .entry)) (now (staging .entry)) (now (store .entry)))) ⌝ }
 {
     if !lines_allowed(lines) {
         return unopened(Answer::WrongLines);
@@ -92,7 +95,9 @@ fn take_bytes(
     font: &[u8],
 ) -> Fed
     requires { ⌜ Ready lp2 (machine p (now page) (now line) (now staging) (now store)) × (length (now font) ≡ 2048) ⌝ }
-    ensures { λ r. ⌜ given-feeding r (now (page .exit)) (now (line .exit)) (now (staging .exit)) (now (store .exit)) ≡ take-bytes lp2 (now (font .entry)) (now (piece .entry)) (machine p (now (page .entry)) (now (line .entry)) (now (staging .entry)) (now (store .entry))) ⌝ }
+    ensures { λ r. ⌜ given-feeding r (now (page .exit)) (now (line .exit)) (now (staging .exit)) (now (store .exit))
+        ≡ take-bytes lp2 (now (font .entry)) (now (piece .entry))
+        (machine p (now (page .entry)) (now (line .entry)) (now (staging .entry)) (now (store .entry))) ⌝ }
 {
     let mut q = p;
     let mut i = 0;
@@ -127,7 +132,9 @@ pub fn feed(
     store: &mut [u8],
     font: &[u8],
 ) -> Fed
-    ensures { λ r. ⌜ given-feeding r (now (page .exit)) (now (line .exit)) (now (staging .exit)) (now (store .exit)) ≡ feeding lp2 (now (font .entry)) (now (piece .entry)) (machine p (now (page .entry)) (now (line .entry)) (now (staging .entry)) (now (store .entry))) ⌝ }
+    ensures { λ r. ⌜ given-feeding r (now (page .exit)) (now (line .exit)) (now (staging .exit)) (now (store .exit))
+        ≡ feeding lp2 (now (font .entry)) (now (piece .entry))
+        (machine p (now (page .entry)) (now (line .entry)) (now (staging .entry)) (now (store .entry))) ⌝ }
 {
     if !sound(p) {
         return Fed {
@@ -159,7 +166,9 @@ pub fn offer(
     store: &mut [u8],
     font: &[u8],
 ) -> Fed
-    ensures { λ r. ⌜ given-feeding r (now (page .exit)) (now (line .exit)) (now (staging .exit)) (now (store .exit)) ≡ more taken (feeding lp2 (now (font .entry)) (drop taken (now (piece .entry))) (machine p (now (page .entry)) (now (line .entry)) (now (staging .entry)) (now (store .entry)))) ⌝ }
+    ensures { λ r. ⌜ given-feeding r (now (page .exit)) (now (line .exit)) (now (staging .exit)) (now (store .exit))
+        ≡ more taken (feeding lp2 (now (font .entry)) (drop taken (now (piece .entry)))
+        (machine p (now (page .entry)) (now (line .entry)) (now (staging .entry)) (now (store .entry)))) ⌝ }
 {
     if taken < piece.len() {
         let f = feed(p, &piece[taken..], page, line, staging, store, font);

@@ -10,7 +10,8 @@ use Rattle.sheet.specs.Edition.{Edition}
 use Rattle.printer.specs.declared.Event.{Event}
 use Rattle.printer.specs.declared.Event.the-variants.{Quiet, Finished, Noted, Guard}
 use Rattle.printer.specs.declared.Pending.{Pending}
-use Rattle.printer.specs.declared.Pending.the-variants.{Nothing, Escape, Tabs, Reset, Select, SelectLow, CountHigh, CountLow, AddressHigh, AddressLow, Payload}
+use Rattle.printer.specs.declared.Pending.the-variants.{Nothing, Escape, Tabs, Reset, Select, SelectLow, CountHigh, CountLow, AddressHigh}
+use Rattle.printer.specs.declared.Pending.the-variants.{AddressLow, Payload}
 use Rattle.printer.specs.declared.Printer.{Printer}
 use Rattle.printer.specs.declared.NextTab.{NextTab}
 use Rattle.printer.specs.declared.NextTab.the-variants.{Tabbed, Untabbed}
@@ -70,7 +71,8 @@ module _ (e : Edition) {k : Kept} where
 
   -- a whole command
   pub obey-keeps : (font : List ℕ) (c : Command) (place : ℕ) (m : Machine) → kept m ≡ k → kept (obey e font c place m .machine) ≡ k
-  unfolding obey alone text-byte print guarded newline vertical-tab form-feed carriage-return strike plot-byte plot escape in-turn tab-here tab plot-escape clear-tabs after-reset reset select download
+  unfolding obey alone text-byte print guarded newline vertical-tab form-feed carriage-return strike plot-byte plot escape in-turn tab-here tab
+      plot-escape clear-tabs after-reset reset select download
   obey-keeps font (byte b) place m h = search (tell-step-keeps, keeps-cond, tab-to-keeps) depth 20
   obey-keeps font (escaped b) place m h = search (tell-step-keeps, keeps-cond) depth 20
   obey-keeps font (tab-list ns) place m h = set-tabs-keeps ns _ (clear-tabs m) h
@@ -92,7 +94,8 @@ tab-to-counts e below lowest m =
     (ap (λ (k : Kept). k .form) h, ap (λ (k : Kept). k .job) h)
 
 act-counts : (e : Edition) (font : List ℕ) (q : Pending) (b here : ℕ) (m : Machine) → Counts (m .printer .form) (m .printer .job) (act e font q b here m)
-unfolding act first-byte second-byte text-escape tab-byte payload-byte alone text-byte print guarded newline vertical-tab form-feed carriage-return strike plot-byte plot escape in-turn tab-here tab plot-escape clear-tabs after-reset reset select download tab-item
+unfolding act first-byte second-byte text-escape tab-byte payload-byte alone text-byte print guarded newline vertical-tab form-feed carriage-return
+    strike plot-byte plot escape in-turn tab-here tab plot-escape clear-tabs after-reset reset select download tab-item
 act-counts e font Nothing b here m = search (counts-cond, tab-to-counts) depth 20
 act-counts e font (Escape place) b here m = search counts-cond depth 20
 act-counts e font (Tabs place) b here m = search counts-cond depth 20

@@ -10,7 +10,8 @@ use Rattle.sheet.specs.Dots.{struck}
 use Rattle.sheet.specs.Edition.{Edition}
 use Rattle.sheet.specs.Form.{fits}
 use Rattle.printer.specs.declared.Pending.{Pending}
-use Rattle.printer.specs.declared.Pending.the-variants.{Nothing, Escape, Tabs, Reset, Select, SelectLow, CountHigh, CountLow, AddressHigh, AddressLow, Payload}
+use Rattle.printer.specs.declared.Pending.the-variants.{Nothing, Escape, Tabs, Reset, Select, SelectLow, CountHigh, CountLow, AddressHigh}
+use Rattle.printer.specs.declared.Pending.the-variants.{AddressLow, Payload}
 use Rattle.printer.specs.declared.NextTab.{NextTab}
 use Rattle.printer.specs.declared.NextTab.the-variants.{Tabbed, Untabbed}
 use Rattle.printer.specs.Alone.{alone, text-byte}
@@ -115,7 +116,8 @@ module _ (e : Edition) (font : List ℕ) (b here : ℕ) (m : Machine) where
   begins true q = rw (eqb-true b 0x1b q)
 
   act-page : (q : Pending) → Leaves (left-by e m (idle q && not (m .printer .head .plotting) && terminator b)) (act e font q b here m)
-  unfolding act first-byte second-byte text-escape tab-byte payload-byte alone escape in-turn tab-here tab plot-escape clear-tabs after-reset reset select download tab-item
+  unfolding act first-byte second-byte text-escape tab-byte payload-byte alone escape in-turn tab-here tab plot-escape clear-tabs after-reset reset
+      select download tab-item
   act-page Nothing = leaves-test (eqb b 0x1b) _ _ (begins (not (m .printer .head .plotting))) (λ _. by-mode (m .printer .head .plotting))
   act-page (Escape place) = search (leaves-cond, plot-page) depth 20
   act-page (Tabs place) = search leaves-cond
@@ -129,7 +131,8 @@ module _ (e : Edition) (font : List ℕ) (b here : ℕ) (m : Machine) where
   act-page (Payload place load) = search leaves-cond depth 10
 
 -- one strike or none
-strike-if : (e : Edition) (s : Strike) (page : List ℕ) (t : Bool) → strike-all e (cond t (s ∷ []) []) page ≡ cond t (struck e page (s .line) (s .row) (s .pitch)) page
+strike-if : (e : Edition) (s : Strike) (page : List ℕ) (t : Bool)
+    → strike-all e (cond t (s ∷ []) []) page ≡ cond t (struck e page (s .line) (s .row) (s .pitch)) page
 unfolding strike-all
 strike-if e s page true = refl
 strike-if e s page false = refl
@@ -137,4 +140,6 @@ strike-if e s page false = refl
 -- THE LAW: the page after a byte is the page before it with the line struck that the byte strikes
 pub step-page : (e : Edition) (font : List ℕ) (b : ℕ) (m : Machine) → step e font b m .machine .page ≡ strike-all e (strikes-of b m) (m .page)
 unfolding step strikes-of strikes
-step-page e font b m = act-page e font b (m .printer .job) (with-job (m .printer .job + 1) m) (m .printer .pending) ∙ sym (strike-if e (in-progress m) (m .page) (strikes b m))
+step-page e font b m =
+    act-page e font b (m .printer .job) (with-job (m .printer .job + 1) m) (m .printer .pending)
+    ∙ sym (strike-if e (in-progress m) (m .page) (strikes b m))

@@ -12,7 +12,9 @@ use Rattle.printer.specs.declared.Pending.{Pending}
 use Rattle.printer.specs.declared.Pending.the-variants.{Nothing, Escape, Tabs, Reset, Select, CountHigh}
 use Rattle.printer.specs.Alone.{alone}
 use Rattle.printer.specs.Bytes.{act, first-byte, run, second-byte, step, text-escape, waiting}
-use Rattle.printer.specs.Commands.{Cut, Items, byte, cut, cut-checksum, cut-download, cut-escape, cut-reset, cut-select, cut-tabs, unended, escaped, items, leave, leave-download, leave-select, listed, obey, read, read-cut, reading, set-tabs, unfinished, whole}
+use Rattle.printer.specs.Commands.{Cut, Items, byte, cut, cut-checksum, cut-download, cut-escape, cut-reset, cut-select, cut-tabs, unended}
+use Rattle.printer.specs.Commands.{escaped, items, leave, leave-download, leave-select, listed, obey, read, read-cut, reading, set-tabs}
+use Rattle.printer.specs.Commands.{unfinished, whole}
 use Rattle.printer.specs.Escapes.{clear-tabs, escape}
 use Rattle.printer.specs.Machine.{Machine, with-job, with-pending}
 use Rattle.printer.specs.Plotting.{plot-escape}

@@ -5,7 +5,8 @@ use mathlib.Core.List.{List, [], _∷_}
 use native.Mathlib.Omega.{arith}
 use lib.Dec.{eqb}
 use lib.ListN.{drop, length, length-drop}
-use Rattle.printer.specs.Commands.{Cut, Items, cut, cut-checksum, cut-download, cut-escape, cut-reset, cut-select, cut-tabs, unended, items, listed, unfinished, whole}
+use Rattle.printer.specs.Commands.{Cut, Items, cut, cut-checksum, cut-download, cut-escape, cut-reset, cut-select, cut-tabs, unended, items}
+use Rattle.printer.specs.Commands.{listed, unfinished, whole}
 use Rattle.printer.proofs.TabLists.{Counted, items-counted}
 
 -- what follows the first command is at most n bytes

@@ -43,7 +43,8 @@ abbrev pub Inside : ℕ → NextTab → Type 0
 Inside lines (Tabbed n) = (1 ≤ n .0) × (n .0 ≤ lines)
 Inside lines Untabbed = Unit {0}
 
-pub first-tab-inside : (lines : ℕ) (n : Line) (tabs : List Bool) → 1 ≤ n .0 → ((i : ℕ) → T (getD tabs i false) → n .0 + i ≤ lines) → Inside lines (first-tab n tabs)
+pub first-tab-inside : (lines : ℕ) (n : Line) (tabs : List Bool) → 1 ≤ n .0 → ((i : ℕ) → T (getD tabs i false) → n .0 + i ≤ lines)
+    → Inside lines (first-tab n tabs)
 unfolding first-tab
 first-tab-inside lines n [] l h = tt
 first-tab-inside lines n (true ∷ ts) l h = (l, omega (arith, h 0 tt))

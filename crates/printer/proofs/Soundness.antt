@@ -15,7 +15,8 @@ use Rattle.printer.specs.declared.Begun.{Begun}
 use Rattle.printer.specs.declared.Begun.the-variants.{Nowhere, At}
 use Rattle.printer.specs.declared.Head.{Head}
 use Rattle.printer.specs.declared.Pending.{Pending}
-use Rattle.printer.specs.declared.Pending.the-variants.{Nothing, Escape, Tabs, Reset, Select, SelectLow, CountHigh, CountLow, AddressHigh, AddressLow, Payload}
+use Rattle.printer.specs.declared.Pending.the-variants.{Nothing, Escape, Tabs, Reset, Select, SelectLow, CountHigh, CountLow, AddressHigh}
+use Rattle.printer.specs.declared.Pending.the-variants.{AddressLow, Payload}
 use Rattle.printer.specs.declared.Printer.{Printer}
 use Rattle.printer.specs.Facts.{Sound, SoundForm, SoundHead, SoundLoad, SoundPlace, SoundPlot, SoundTabs}
 use Rattle.printer.specs.Sound.{begun, form-sound, fresh-sound, load-sound, at-most-escape, place-sound, plot-sound, sound, tabs-sound, untabbed}
@@ -55,7 +56,11 @@ module _ (f : Form) (tabs : List Bool) where
       go true r = ltb-true _ _ r
       go false r =
           let s : f .lines + (i - f .lines) ≡ i = omega (arith, ltb-false) in
-          absurd (subst T (sym (ap (λ (k : ℕ). getD tabs k false) s) ∙ sym (getD-drop (f .lines) tabs (i - f .lines) false) ∙ untabbed-facts (drop (f .lines) tabs) q (i - f .lines)) t)
+          absurd
+          (subst T
+          (sym (ap (λ (k : ℕ). getD tabs k false) s)
+          ∙ sym (getD-drop (f .lines) tabs (i - f .lines) false)
+          ∙ untabbed-facts (drop (f .lines) tabs) q (i - f .lines)) t)
 
   tabs-facts : tabs-sound f tabs ≡ true → SoundTabs (f .lines) tabs
   tabs-facts q = record { inside = tab-inside q }

@@ -14,7 +14,8 @@ use Rattle.sheet.specs.declared.Pitch.{Pitch}
 use Rattle.sheet.specs.declared.Row.{Row}
 use Rattle.sheet.specs.Dots.{struck}
 use Rattle.sheet.specs.Edition.{Edition}
-use Rattle.sheet.specs.Form.{first-line, fits, has-line, form-rows, line, lines-above, lines-through, next-line, line-of, lines-allowed, page-bytes, spacing-allowed, top}
+use Rattle.sheet.specs.Form.{first-line, fits, has-line, form-rows, line, lines-above, lines-through, next-line, line-of, lines-allowed, page-bytes}
+use Rattle.sheet.specs.Form.{spacing-allowed, top}
 use Rattle.sheet.proofs.Struck.{length-struck}
 use Rattle.sheet.proofs.Units.{length-blank-page, length-empty-line, line-fits, line-inside, top-fits}
 use Rattle.glyph.specs.Entering.{or-in}
@@ -26,14 +27,16 @@ use Rattle.printer.specs.declared.Event.{Event}
 use Rattle.printer.specs.declared.Event.the-variants.{Quiet, Finished, Noted, Guard}
 use Rattle.printer.specs.declared.Load.{Load}
 use Rattle.printer.specs.declared.Pending.{Pending}
-use Rattle.printer.specs.declared.Pending.the-variants.{Nothing, Escape, Tabs, Reset, Select, SelectLow, CountHigh, CountLow, AddressHigh, AddressLow, Payload}
+use Rattle.printer.specs.declared.Pending.the-variants.{Nothing, Escape, Tabs, Reset, Select, SelectLow, CountHigh, CountLow, AddressHigh}
+use Rattle.printer.specs.declared.Pending.the-variants.{AddressLow, Payload}
 use Rattle.printer.specs.declared.Printer.{Printer}
 use Rattle.printer.specs.declared.NextTab.{NextTab}
 use Rattle.printer.specs.declared.NextTab.the-variants.{Tabbed, Untabbed}
 use Rattle.printer.specs.Alone.{alone, text-byte}
 use Rattle.printer.specs.Bytes.{act, ended, loaded, first-byte, payload-byte, run, second-byte, step, tab-byte, text-escape}
 use Rattle.printer.specs.Downloads.{download, out-of-range, replaced}
-use Rattle.printer.specs.Escapes.{after-reset, clear-tabs, set-elongated, escape, set-downloaded, in-turn, set-pitch, begin-plot, reset, select, tab, tab-here, tab-item, set-underscore}
+use Rattle.printer.specs.Escapes.{after-reset, clear-tabs, set-elongated, escape, set-downloaded, in-turn, set-pitch, begin-plot, reset, select}
+use Rattle.printer.specs.Escapes.{tab, tab-here, tab-item, set-underscore}
 use Rattle.printer.specs.Machine.{Machine, fresh-head, opened, with-job, with-pending, with-staging}
 use Rattle.printer.specs.Plotting.{plot, plot-byte, plot-escape, leave-plot}
 use Rattle.printer.specs.Printing.{entered, moved-to, print}
@@ -113,7 +116,8 @@ module _ {e : Edition} {m : Machine} (h : Ready e m) where
       let n : Line = current-line m in
       guarded-fine _
       (tab-to-fine _ _
-      (first-tab-inside (form .lines) (next-line n) (drop (lines-through n) (line-tabs (m .printer .tabs))) (omega arith) (λ i t. omega (arith, h .printer .tabs .inside (lines-through n + i) (rw getD-drop at t))))
+      (first-tab-inside (form .lines) (next-line n) (drop (lines-through n) (line-tabs (m .printer .tabs))) (omega arith)
+      (λ i t. omega (arith, h .printer .tabs .inside (lines-through n + i) (rw getD-drop at t))))
       (first-tab-inside (form .lines) first-line (line-tabs (m .printer .tabs)) (omega arith) (λ i t. omega (arith, h .printer .tabs .inside i t))))
 
   moved-sound : (c : ℕ) → c ≤ width → SoundHead form width (moved-to c (m .printer .head))
@@ -188,7 +192,18 @@ module _ {e : Edition} {m : Machine} (h : Ready e m) where
 
   escape-fine : (b place : ℕ) → at-most-escape (m .printer .pending) ≡ true → Fine e (escape b place m)
   unfolding escape
-  escape-fine b place q = search (fine, tab-here-ready, set-elongated-ready, set-underscore-ready, set-downloaded-ready, in-turn-fine, set-pitch-ready, begin-plot-ready) depth 20
+  escape-fine b place q =
+      search (
+        fine,
+        tab-here-ready,
+        set-elongated-ready,
+        set-underscore-ready,
+        set-downloaded-ready,
+        in-turn-fine,
+        set-pitch-ready,
+        begin-plot-ready,
+      )
+      depth 20
 
   plot-escape-fine : (b place : ℕ) → Fine e (plot-escape e b place m)
   unfolding plot-escape

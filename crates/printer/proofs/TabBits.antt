@@ -144,7 +144,10 @@ module _ (t : TabSet) where
   put-tested on k true b p q =
       simp p (ap (λ (xs : List Bool). xs ++ high) (put-word on k 64 (t .low)) ∙ sym (set-append-left low high k on (low-long k (ltb-true _ _ p))))
   put-tested on k false true p q =
-      simp (p, q) (ap (λ (xs : List Bool). low ++ xs) (put-word on (k - 64) 64 (t .high)) ∙ sym (set-append-add low high (k - 64) on) ∙ sym (ap (λ (n : ℕ). set (low ++ high) n on) (past-low k (ltb-false _ _ p))))
+      simp (p, q)
+      (ap (λ (xs : List Bool). low ++ xs) (put-word on (k - 64) 64 (t .high))
+      ∙ sym (set-append-add low high (k - 64) on)
+      ∙ sym (ap (λ (n : ℕ). set (low ++ high) n on) (past-low k (ltb-false _ _ p))))
   put-tested on k false false p q = simp (p, q) (sym (set-out (line-tabs t) k on (simp length-tabs (ltb-false _ _ q))))
 
 -- THE LAW: a tab set or cleared in the words is one set or cleared in the list

@@ -8,7 +8,8 @@ use Rattle.sheet.specs.Edition.{Edition}
 use Rattle.glyph.specs.Words.{high-first}
 use Rattle.printer.specs.declared.Load.{Load}
 use Rattle.printer.specs.declared.Pending.{Pending}
-use Rattle.printer.specs.declared.Pending.the-variants.{Nothing, Escape, Tabs, Reset, Select, SelectLow, CountHigh, CountLow, AddressHigh, AddressLow, Payload}
+use Rattle.printer.specs.declared.Pending.the-variants.{Nothing, Escape, Tabs, Reset, Select, SelectLow, CountHigh, CountLow, AddressHigh}
+use Rattle.printer.specs.declared.Pending.the-variants.{AddressLow, Payload}
 use Rattle.printer.specs.Alone.{alone}
 use Rattle.printer.specs.Downloads.{download}
 use Rattle.printer.specs.Escapes.{clear-tabs, escape, reset, select, tab-item}

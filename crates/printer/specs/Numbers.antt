@@ -2,7 +2,8 @@
 use Prim.Native.Nat.{ℕ}
 use mathlib.Core.List.{List, [], _∷_}
 use Rattle.printer.specs.declared.Fault.{Fault}
-use Rattle.printer.specs.declared.Fault.the-variants.{UnknownCommand, LineFull, Checksum, UnnamedControl, HighByte, OutOfTurn, WrongBytes, PlotLine, DownloadRange, TabLine, IllFormed}
+use Rattle.printer.specs.declared.Fault.the-variants.{UnknownCommand, LineFull, Checksum, UnnamedControl, HighByte, OutOfTurn, WrongBytes}
+use Rattle.printer.specs.declared.Fault.the-variants.{PlotLine, DownloadRange, TabLine, IllFormed}
 use Rattle.printer.specs.Steps.{Told, form, note}
 
 -- the number of a note

@@ -11,7 +11,8 @@ use Rattle.sheet.specs.Dots.{Strikes, struck}
 use Rattle.sheet.specs.Edition.{Edition}
 use Rattle.sheet.specs.Form.{fits}
 use Rattle.printer.specs.declared.Pending.{Pending}
-use Rattle.printer.specs.declared.Pending.the-variants.{Nothing, Escape, Tabs, Reset, Select, SelectLow, CountHigh, CountLow, AddressHigh, AddressLow, Payload}
+use Rattle.printer.specs.declared.Pending.the-variants.{Nothing, Escape, Tabs, Reset, Select, SelectLow, CountHigh, CountLow, AddressHigh}
+use Rattle.printer.specs.declared.Pending.the-variants.{AddressLow, Payload}
 use Rattle.printer.specs.Machine.{Machine}
 
 -- a line, the row that it was struck at and its pitch

@@ -60,4 +60,6 @@ module _ (e : Edition) where
   unfoldable pub vertical-tab : Machine → Step
   vertical-tab m =
       let n : Line = current-line m in
-      guarded m (tab-to (first-tab (next-line n) (drop (lines-through n) (line-tabs (m .printer .tabs)))) (first-tab first-line (line-tabs (m .printer .tabs))) m)
+      guarded m
+      (tab-to (first-tab (next-line n) (drop (lines-through n) (line-tabs (m .printer .tabs))))
+      (first-tab first-line (line-tabs (m .printer .tabs))) m)

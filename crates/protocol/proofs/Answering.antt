@@ -47,9 +47,11 @@ module _ (e : Edition) (font : List ℕ) where
 
   heard-taking : (n : ℕ) (v : Event) (m x : Machine) (f : Feeding) → x .printer .job ≡ m .printer .job + 1 → Taking n x f → Taking (suc n) m (heard v m x f)
   unfolding heard refusal
-  heard-taking n event.Quiet m x f q k = record { allowed = k .allowed; counted = omega (arith, k .counted); within = omega (arith, k .within); all = λ d. ap suc (k .all d) }
+  heard-taking n event.Quiet m x f q k =
+      record { allowed = k .allowed; counted = omega (arith, k .counted); within = omega (arith, k .within); all = λ d. ap suc (k .all d) }
   heard-taking n event.Finished m x f q k = record { allowed = refl; counted = q; within = omega arith; all = λ d. absurd (not-done Finished d refl) }
-  heard-taking n (event.Noted g place) m x f q k = record { allowed = refl; counted = q; within = omega arith; all = λ d. absurd (not-done (Noted g place) d refl) }
+  heard-taking n (event.Noted g place) m x f q k =
+      record { allowed = refl; counted = q; within = omega arith; all = λ d. absurd (not-done (Noted g place) d refl) }
   heard-taking n event.Guard m x f q k = stopped-taking (suc n) Guarded m refl (λ d. absurd (not-done Guarded d refl))
 
   taking-if : (n : ℕ) (m : Machine) (f : Feeding) (t : Bool) → Taking n m f → Taking n m (cond t f (stopped JobFull m))

@@ -65,11 +65,13 @@ module _ (e : Edition) (font : List ℕ) where
         (call-run bs (s .machine) (room-step b bs m r) (λ rest x l w. k rest x (omega arith) w)))
 
   module _ (sized : length font ≡ 2048) where
-    offer-run : (calls : ℕ) (piece : List ℕ) (m : Machine) → length piece < calls → Room piece m → offer e (feeding e font) calls piece m ≡ delivered (run e font piece m)
+    offer-run : (calls : ℕ) (piece : List ℕ) (m : Machine) → length piece < calls → Room piece m
+        → offer e (feeding e font) calls piece m ≡ delivered (run e font piece m)
     unfolding offer
     offer-run zero piece m l r = absurd (omega arith)
     offer-run (suc calls) piece m l r =
-        rw (feeding-takes (r .ready) font sized piece) (call-run (offer e (feeding e font) calls) piece m r (λ rest x k w. offer-run calls rest x (omega arith) w))
+        rw (feeding-takes (r .ready) font sized piece)
+        (call-run (offer e (feeding e font) calls) piece m r (λ rest x k w. offer-run calls rest x (omega arith) w))
 
     room-front : (xs ys : List ℕ) (m : Machine) → Room (xs ++ ys) m → Room xs m
     room-front xs ys m r = record { ready = r .ready; fits = omega (arith, r .fits, length-append xs ys) }
@@ -78,7 +80,8 @@ module _ (e : Edition) (font : List ℕ) where
     room-back xs ys m r =
         record { ready = run-ready font xs (r .ready); fits = omega (arith, r .fits, length-append xs ys, run-counts e font xs m .1) }
 
-    delivery-run : (pieces : List (List ℕ)) (m : Machine) → Room (joined pieces) m → delivery e (feeding e font) pieces m ≡ delivered (run e font (joined pieces) m)
+    delivery-run : (pieces : List (List ℕ)) (m : Machine) → Room (joined pieces) m
+        → delivery e (feeding e font) pieces m ≡ delivered (run e font (joined pieces) m)
     unfolding delivery joined run
     delivery-run [] m r = refl
     delivery-run (piece ∷ pieces) m r =
@@ -98,7 +101,8 @@ any-cutting-from {e} {m} h idle font sized pieces l =
 -- job gives, the same forms and notes in the same order and the same machine, and the last answer is 0.
 pub any-cutting : (e : Edition) (font : List ℕ) (lines spacing : ℕ) (lent : Machine) (pieces : List (List ℕ))
     → opening e lines spacing font lent .answer ≡ Done → length (joined pieces) ≤ 4294967295
-    → delivery e (feeding e font) pieces (opening e lines spacing font lent .machine) ≡ delivered (reading e font (joined pieces) (opening e lines spacing font lent .machine))
+    → delivery e (feeding e font) pieces (opening e lines spacing font lent .machine)
+    ≡ delivered (reading e font (joined pieces) (opening e lines spacing font lent .machine))
 any-cutting e font lines spacing lent pieces done l =
     let f : Form = record { lines = lines; spacing = spacing } in
     let a : Accepted e f font (opening e lines spacing font lent) = opening-accepted e lines spacing font lent done in

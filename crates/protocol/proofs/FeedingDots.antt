@@ -51,7 +51,10 @@ module _ (e : Edition) (font : List ℕ) where
       → Inked f page (ss ++ if-quiet v rest) (heard v m n after)
   unfolding heard if-quiet strike-all
   heard-inked f page ss rest Quiet m n after a on q k =
-      record { page-after = k .page-after ∙ ap (strike-all e rest) q ∙ sym (strike-all-append e ss rest page); on-form = on-form-append e f ss rest on (k .on-form) }
+      record {
+        page-after = k .page-after ∙ ap (strike-all e rest) q ∙ sym (strike-all-append e ss rest page);
+        on-form = on-form-append e f ss rest on (k .on-form);
+      }
   heard-inked f page ss rest Finished m n after a on q k =
       record { page-after = q ∙ sym (strike-all-append e ss [] page); on-form = on-form-append e f ss [] on tt }
   heard-inked f page ss rest (Noted g place) m n after a on q k =
@@ -63,7 +66,8 @@ module _ (e : Edition) (font : List ℕ) where
   inked-if f m ss left true k = k
   inked-if f m ss left false k = unstruck f JobFull m
 
-  taken-inked : (bs : List ℕ) (m : Machine) (f : Form) → m .printer .form ≡ f → Ready e m → Inked f (m .page) (taken-strikes e font bs m) (take-bytes e font bs m)
+  taken-inked : (bs : List ℕ) (m : Machine) (f : Form) → m .printer .form ≡ f → Ready e m
+      → Inked f (m .page) (taken-strikes e font bs m) (take-bytes e font bs m)
   unfolding taken-strikes take-bytes
   taken-inked [] m f q h = unstruck f Done m
   taken-inked (b ∷ bs) m f q h =
@@ -92,7 +96,8 @@ module _ (e : Edition) (font : List ℕ) where
   feeding-inked piece m = tested-inked piece m (sound e (m .printer)) refl
 
 -- the page after a feeding is the page lent with the lines struck that the feeding strikes, whatever the state and the memory lent
-pub feeding-page : (e : Edition) (font piece : List ℕ) (m : Machine) → feeding e font piece m .machine .page ≡ strike-all e (feeding-strikes e font piece m) (m .page)
+pub feeding-page : (e : Edition) (font piece : List ℕ) (m : Machine)
+    → feeding e font piece m .machine .page ≡ strike-all e (feeding-strikes e font piece m) (m .page)
 feeding-page e font piece m = feeding-inked e font piece m .page-after
 
 -- a feeding that strikes at all has a page of the form's size

@@ -61,7 +61,8 @@ module _ (font : List ℕ) (sized : length font ≡ 2048) where
   one-piece c q =
       let t = and-eq-true-iff _ _ .0 q in
       let l : length (c .job) ≤ 200 = leb-true _ _ (t .1) in
-      simp append-nil at (any-cutting-from (start-ready (c .row) (c .plotted) (leb-true _ _ (t .0))) refl font sized (c .job ∷ []) (simp append-nil (omega arith)))
+      simp append-nil at
+      (any-cutting-from (start-ready (c .row) (c .plotted) (leb-true _ _ (t .0))) refl font sized (c .job ∷ []) (simp append-nil (omega arith)))
 
   found-same : (cs : List Case) → all-fed cs ≡ true → map (found (λ (job : List ℕ) (m : Machine). outcome (whole job m))) cs ≡ map (found (reading lp2 font)) cs
   unfolding found

@@ -83,7 +83,8 @@ module _ (font piece : List ℕ) (i : ℕ) (m : Machine) where
     taken-on q =
         let rest : Feeding = take-bytes lp2 font (drop (i + 1) piece) (s .machine) in
         let e : i + suc (rest .taken) ≡ i + 1 + rest .taken = omega arith in
-        simp (drop-cons piece i 0 h, lt-ltb _ _ room, ← is, ← add-one i) (ap (more i) (heard-quiet (s .event) m (s .machine) rest q) ∙ ap (λ (n : ℕ). with-taken n rest) e)
+        simp (drop-cons piece i 0 h, lt-ltb _ _ room, ← is, ← add-one i)
+        (ap (more i) (heard-quiet (s .event) m (s .machine) rest q) ∙ ap (λ (n : ℕ). with-taken n rest) e)
 
     pub taken-out : is-quiet (s .event) ≡ false → Allowed (s .event) → (p : Printer)
         → left ≡ given-feeding (answer-to (s .event) p (s .machine .printer) i) (s .machine .page) (s .machine .line) (s .machine .staging) (s .machine .store)
