@@ -45,3 +45,13 @@ pub fn say_closing(words: &[u8], closing: Closing) -> bool {
         Closing::Unsound => say(b"10\n"),
     }
 }
+
+// Writes a line's kind and name.
+pub fn say_name(kind: &[u8], name: &[u8]) -> bool {
+    say(b"EDGE ") && say(kind) && say(name)
+}
+
+// Writes that a line of the table is not understood.
+pub fn say_unknown(number: u64) -> bool {
+    say_number(b"EDGE line ", number) && say(b" not understood\n")
+}

@@ -1,227 +1,251 @@
-// The memory of a form of 1 line at 8 an inch, each part one longer than it has to be, so that it can be lent short, exact or long.
+// The memory of a form of 1 line at 8 an inch, each part one longer than it has to be, so that it can be lent short, exact or long. It is marked before a
+// call: each number is three times the one before it, so that none is 0 where the first is 1, and all are where it is 0.
 ghost use Prim.Native.Nat.{_≤_};
-use job::calls::feed;
+use crate::case::Case;
+use crate::case::Sizes;
+use crate::case::fed_next;
+use crate::words::CLOSE;
+use crate::words::COMPARE;
+use crate::words::FEED;
+use crate::words::LIMIT;
+use crate::words::OPEN;
+use crate::words::SOUND;
+use crate::words::UNSOUND;
+use job::calls::offer;
 use job::calls::open;
-use printer::Printer;
 use protocol::Fed;
-use protocol::Opened;
 
-// How much of each part is lent.
-pub struct Sizes {
-    pub page: usize,
-    pub line: usize,
-    pub staging: usize,
-    pub store: usize,
-    pub font: usize,
-}
+// The first number of memory that is marked, and of memory that is blank.
+pub const MARKED: u8 = 1;
 
-pub fn lend(page: usize, line: usize, staging: usize, store: usize, font: usize) -> Sizes {
-    Sizes {
-        page,
-        line,
-        staging,
-        store,
-        font,
-    }
-}
+pub const BLANK: u8 = 0;
 
-// The exact lengths.
-pub fn exact() -> Sizes {
-    lend(7425, 2200, 2048, 2048, 2048)
-}
-
-// The lengths that are each one too short.
-pub fn all_short() -> Sizes {
-    lend(7424, 2199, 2047, 2047, 2047)
-}
-
-fn at_most(size: usize, most: usize) -> usize
+// The number, or the most that it can be.
+pub fn at_most(number: usize, most: usize) -> usize
     ensures { λ r. ⌜ r ≤ most ⌝ }
 {
-    if size < most { size } else { most }
+    if number < most { number } else { most }
 }
 
-// Fills bytes with a pattern: each is 7 more than the one before it, modulo 256.
-fn mark_bytes(bytes: &mut [u8]) {
-    let mut mark: u8 = 1;
+// Marks bytes, from a first one on.
+fn mark_bytes(bytes: &mut [u8], first: u8) {
+    let mut mark = first;
     let mut i = 0;
     while i < bytes.len() {
         bytes[i] = mark;
-        mark = std::num::wrapping_add_u8(mark, 7);
+        mark = std::num::wrapping_add_u8(mark, std::num::wrapping_add_u8(mark, mark));
         i += 1;
     }
 }
 
-// Fills numbers with a pattern: each is 263 more than the one before it, modulo 65,536.
-fn mark_numbers(numbers: &mut [u16]) {
-    let mut mark: u16 = 1;
+// Marks numbers, from a first one on.
+fn mark_numbers(numbers: &mut [u16], first: u8) {
+    let mut mark = first as u16;
     let mut i = 0;
     while i < numbers.len() {
         numbers[i] = mark;
-        mark = std::num::wrapping_add_u16(mark, 263);
+        mark = std::num::wrapping_add_u16(mark, std::num::wrapping_add_u16(mark, mark));
         i += 1;
     }
 }
 
-// Whether bytes have the pattern that rises by `rise` from `first`: 7 from 1 where they are marked, 0 from 0 where they are blank.
-fn bytes_rise(bytes: &[u8], first: u8, rise: u8) -> bool {
+// Marks all parts of the memory, from a first number on.
+fn mark(first: u8, page: &mut [u8], line: &mut [u16], staging: &mut [u8], store: &mut [u8]) {
+    mark_bytes(page, first);
+    mark_numbers(line, first);
+    mark_bytes(staging, first);
+    mark_bytes(store, first);
+}
+
+// Whether bytes are as marked, but for the last so many.
+fn bytes_as(bytes: &[u8], first: u8, spare: usize) -> bool {
     let mut mark = first;
     let mut i = 0;
     while i < bytes.len() {
         if bytes[i] != mark {
-            return false;
+            return bytes.len() - i <= spare;
         }
-        mark = std::num::wrapping_add_u8(mark, rise);
+        mark = std::num::wrapping_add_u8(mark, std::num::wrapping_add_u8(mark, mark));
         i += 1;
     }
     true
 }
 
-// The same of numbers: 263 from 1 where they are marked, 0 from 0 where they are blank.
-fn numbers_rise(numbers: &[u16], first: u16, rise: u16) -> bool {
-    let mut mark = first;
+// Whether numbers are as marked, but for the last so many.
+fn numbers_as(numbers: &[u16], first: u8, spare: usize) -> bool {
+    let mut mark = first as u16;
     let mut i = 0;
     while i < numbers.len() {
         if numbers[i] != mark {
-            return false;
+            return numbers.len() - i <= spare;
         }
-        mark = std::num::wrapping_add_u16(mark, rise);
+        mark = std::num::wrapping_add_u16(mark, std::num::wrapping_add_u16(mark, mark));
         i += 1;
     }
     true
 }
 
-// Marks all that can be written.
-pub fn mark(page: &mut [u8], line: &mut [u16], staging: &mut [u8], store: &mut [u8]) {
-    mark_bytes(page);
-    mark_numbers(line);
-    mark_bytes(staging);
-    mark_bytes(store);
+// Whether all parts of the memory are as marked, but for the last of each.
+fn is_as(first: u8, spare: usize, page: &[u8], line: &[u16], staging: &[u8], store: &[u8]) -> bool {
+    bytes_as(page, first, spare)
+        && numbers_as(line, first, spare)
+        && bytes_as(staging, first, spare)
+        && bytes_as(store, first, spare)
 }
 
-// Whether all that can be written is as it was marked.
-pub fn is_marked(page: &[u8], line: &[u16], staging: &[u8], store: &[u8]) -> bool {
-    bytes_rise(page, 1, 7)
-        && numbers_rise(line, 1, 263)
-        && bytes_rise(staging, 1, 7)
-        && bytes_rise(store, 1, 7)
-}
-
-// Whether all that can be written is blank.
-pub fn is_blank(page: &[u8], line: &[u16], staging: &[u8], store: &[u8]) -> bool {
-    bytes_rise(page, 0, 0)
-        && numbers_rise(line, 0, 0)
-        && bytes_rise(staging, 0, 0)
-        && bytes_rise(store, 0, 0)
-}
-
-// Opens a job with parts of the memory.
-pub fn open_lent(
-    lines: usize,
-    spacing: usize,
-    lent: Sizes,
-    page: &mut [u8],
-    line: &mut [u16],
-    staging: &mut [u8],
-    store: &mut [u8],
-    font: &[u8],
-) -> Opened {
-    let a = at_most(lent.page, page.len());
-    let b = at_most(lent.line, line.len());
-    let c = at_most(lent.staging, staging.len());
-    let d = at_most(lent.store, store.len());
-    let e = at_most(lent.font, font.len());
-    open(
-        lines,
-        spacing,
-        &mut page[..a],
-        &mut line[..b],
-        &mut staging[..c],
-        &mut store[..d],
-        &font[..e],
-    )
-}
-
-// Feeds a piece with parts of the memory.
-pub fn feed_lent(
-    p: Printer,
+// Opens the case's form, or offers the rest of a piece to its state.
+fn call(
+    c: Case,
     piece: &[u8],
-    lent: Sizes,
+    taken: usize,
     page: &mut [u8],
     line: &mut [u16],
     staging: &mut [u8],
     store: &mut [u8],
     font: &[u8],
 ) -> Fed {
-    let a = at_most(lent.page, page.len());
-    let b = at_most(lent.line, line.len());
-    let c = at_most(lent.staging, staging.len());
-    let d = at_most(lent.store, store.len());
-    let e = at_most(lent.font, font.len());
-    feed(
-        p,
+    let p = c.printer;
+    if c.kind != OPEN {
+        return offer(p, piece, taken, page, line, staging, store, font);
+    }
+    let form = p.form;
+    let o = open(form.lines, form.spacing, page, line, staging, store, font);
+    let printer = o.printer;
+    let answer = o.answer;
+    Fed {
+        printer,
+        answer,
+        taken: 0,
+    }
+}
+
+// The same in the lengths that the case lends.
+fn call_lent(
+    c: Case,
+    piece: &[u8],
+    taken: usize,
+    page: &mut [u8],
+    line: &mut [u16],
+    staging: &mut [u8],
+    store: &mut [u8],
+    font: &[u8],
+) -> Fed {
+    let lent = c.lent;
+    let of_page = at_most(lent.page, page.len());
+    let of_line = at_most(lent.line, line.len());
+    let of_staging = at_most(lent.staging, staging.len());
+    let of_store = at_most(lent.store, store.len());
+    let of_font = at_most(lent.font, font.len());
+    call(
+        c,
         piece,
-        &mut page[..a],
-        &mut line[..b],
-        &mut staging[..c],
-        &mut store[..d],
-        &font[..e],
+        taken,
+        &mut page[..of_page],
+        &mut line[..of_line],
+        &mut staging[..of_staging],
+        &mut store[..of_store],
+        &font[..of_font],
     )
 }
 
-// What came of a feeding, and whether the memory is as it was before.
+// What came of a case: what its call gave back, and the offer of the piece's rest after it; whether all memory is as it was marked, and whether its exact
+// lengths are blank; and what is in staging and in the line store at a place.
 pub struct Tried {
     pub fed: Fed,
+    pub rest: Fed,
     pub same: bool,
+    pub blank: bool,
+    pub staged: u64,
+    pub drawn: u64,
 }
 
-// Feeds a piece in marked memory.
-pub fn try_feeding(p: Printer, piece: &[u8], lent: Sizes) -> Tried {
+// A byte as a wider number.
+pub fn wide(byte: u8) -> u64
+    ensures { λ r. ⌜ r ≤ 255 ⌝ }
+{
+    byte as u64
+}
+
+// A number of the line store as a wider number.
+fn wide_number(number: u16) -> u64 {
+    number as u64
+}
+
+// Performs a case's call in memory that is marked from a first number on, and offers the rest of the piece.
+pub fn try_case(c: Case, piece: &[u8], first: u8, place: usize) -> Tried {
     let mut page = [0u8; 7426];
     let mut line = [0u16; 2201];
     let mut staging = [0u8; 2049];
     let mut store = [0u8; 2049];
     let font = [0u8; 2049];
-    mark(&mut page, &mut line, &mut staging, &mut store);
-    let fed = feed_lent(
-        p,
+    mark(first, &mut page, &mut line, &mut staging, &mut store);
+    let fed = call_lent(
+        c,
         piece,
-        lent,
+        0,
         &mut page,
         &mut line,
         &mut staging,
         &mut store,
         &font,
     );
-    let same = is_marked(&page, &line, &staging, &store);
-    Tried { fed, same }
+    let mut rest = call_lent(
+        fed_next(c, fed.printer),
+        piece,
+        fed.taken,
+        &mut page,
+        &mut line,
+        &mut staging,
+        &mut store,
+        &font,
+    );
+    let taken = std::num::wrapping_sub_usize(rest.taken, fed.taken);
+    rest.taken = taken;
+    let at = at_most(place, 2048);
+    Tried {
+        fed,
+        rest,
+        same: is_as(first, 0, &page, &line, &staging, &store),
+        blank: is_as(BLANK, 1, &page, &line, &staging, &store),
+        staged: wide(staging[at]),
+        drawn: wide_number(line[at]),
+    }
 }
 
-// The state of a job just opened.
-pub fn opened() -> Printer {
+// Whether a word says what a case does.
+fn is_kind(word: u64) -> bool {
+    match word {
+        OPEN | COMPARE | UNSOUND | SOUND | FEED | LIMIT | CLOSE => true,
+        _ => false,
+    }
+}
+
+// The case of a kind before its settings: the state of a job just opened, of 1 line at 8 an inch, and the exact lengths.
+pub fn new_case(kind: u64) -> Case {
     let mut page = [0u8; 7425];
     let mut line = [0u16; 2200];
     let mut staging = [0u8; 2048];
     let mut store = [0u8; 2048];
     let font = [0u8; 2048];
     let o = open(1, 8, &mut page, &mut line, &mut staging, &mut store, &font);
-    o.printer
-}
-
-// Feeds a piece with blank memory of the exact lengths.
-pub fn feed_blank(p: Printer, piece: &[u8]) -> Fed {
-    let mut page = [0u8; 7425];
-    let mut line = [0u16; 2200];
-    let mut staging = [0u8; 2048];
-    let mut store = [0u8; 2048];
-    let font = [0u8; 2048];
-    feed(
-        p,
-        piece,
-        &mut page,
-        &mut line,
-        &mut staging,
-        &mut store,
-        &font,
-    )
+    let printer = o.printer;
+    let lent = Sizes {
+        page: 7425,
+        line: 2200,
+        staging: 2048,
+        store: 2048,
+        font: 2048,
+    };
+    Case {
+        kind,
+        printer,
+        other: printer,
+        lent,
+        sends: false,
+        count: 0,
+        view: 0,
+        first: 0,
+        last: 0,
+        known: is_kind(kind),
+    }
 }

@@ -31,7 +31,8 @@ unfolding underscore
 length-underscore zero at line = refl
 length-underscore (suc k) at line = length-or-in _ _ _ ∙ length-underscore k at line
 
-pub length-enter : (glyphs : List ℕ) (n : ℕ) (elongated underscored : Bool) (at : ℕ) (line : List ℕ) → length (enter glyphs n elongated underscored at line) ≡ length line
+pub length-enter : (glyphs : List ℕ) (n : ℕ) (elongated underscored : Bool) (at : ℕ) (line : List ℕ)
+    → length (enter glyphs n elongated underscored at line) ≡ length line
 unfolding enter enter-glyph
 length-enter glyphs n elongated underscored at line =
     let inked : List ℕ = enter-glyph glyphs n elongated at line in

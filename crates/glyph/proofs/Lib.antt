@@ -1,5 +1,6 @@
 -- What is true of glyphs: which are well formed, what entering a character leaves, and LP2's "B" as an example.
 pub mod Lengths
+pub mod Asking
 pub mod Turns
 pub mod WellFormed
 pub mod Cells

@@ -1,55 +1,48 @@
--- One turn of each loop over a glyph, said of the definition that it computes.
-use Prim.Native.Nat.{ℕ, zero, suc, _+_, _-_, _*_, _<_}
-use mathlib.Core.Bool.{not, _&&_, _||_}
+-- One turn of each loop that enters columns into the line store, said of the definition that it computes.
+use Prim.Native.Nat.{ℕ, _+_, _*_, _≤_, _<_}
 use mathlib.Core.List.{List}
-use mathlib.Core.Path.{_≡_}
-use native.Mathlib.Numerals.{add-one, sub-one}
+use mathlib.Core.Path.{_≡_, refl, ap, _∙_}
+use native.Mathlib.Numerals.{add-one}
 use native.Mathlib.Omega.{arith}
-use lib.Dec.{eqb, leb}
-use Rattle.sheet.specs.Dots.{bit}
-use Rattle.glyph.specs.Words.{all-well-formed, apart, column, share, small-words, well-formed, word}
+use lib.ListN.{length}
+use Rattle.glyph.specs.Words.{column}
 use Rattle.glyph.specs.Entering.{enter-narrow, enter-wide, or-in, underscore}
+use Rattle.glyph.proofs.Lengths.{length-or-in}
 
-module _ (glyphs : List ℕ) (n : ℕ) where
-  -- the last word is tested first
-  pub small-words-turn : (k : ℕ) → 0 < k → small-words k glyphs n ≡ (leb (word glyphs n (k - 1)) 511 && small-words (k - 1) glyphs n)
-  unfolding small-words
-  small-words-turn zero h = absurd (omega arith)
-  small-words-turn (suc k) h = simp sub-one
+-- After k of n turns the line is f k, and as long as at entry.
+pub record Made (f : ℕ → List ℕ) (n k : ℕ) (entry line : List ℕ) : Type 0 where
+  pub within : k ≤ n
+  pub kept : length line ≡ length entry
+  pub same : line ≡ f k
 
-  -- the last two columns are tested first
-  pub apart-turn : (k : ℕ) → 0 < k
-      → apart k glyphs n ≡ (not (share 9 (column glyphs n (k - 1)) (column glyphs n (k - 1 + 1))) && apart (k - 1) glyphs n)
-  unfolding apart
-  apart-turn zero h = absurd (omega arith)
-  apart-turn (suc k) h = simp sub-one
+pub none-made : (f : ℕ → List ℕ) (n : ℕ) → Made f n 0 (f 0) (f 0)
+none-made f n = record { within = omega arith; kept = refl; same = refl }
 
+pub all-made : {f : ℕ → List ℕ} {n k : ℕ} {entry line : List ℕ} → Made f n k entry line → n ≤ k → line ≡ f n
+all-made {f} {n} {k} made end =
+    let last : k ≡ n = omega (arith, made .within) in
+    made .same ∙ ap f last
+
+module _ (glyphs : List ℕ) (n at : ℕ) (entry : List ℕ) {k wires : ℕ} {line : List ℕ} (more : k < 7) (here : wires ≡ column glyphs n k) where
   -- one column more, narrow
-  pub narrow-turn : (k at : ℕ) (line : List ℕ)
-      → or-in (at + k) (column glyphs n k) (enter-narrow k glyphs n at line) ≡ enter-narrow (k + 1) glyphs n at line
+  pub narrow-turn : {next : List ℕ} → Made (λ (j : ℕ). enter-narrow j glyphs n at entry) 7 k entry line → next ≡ or-in (at + k) wires line
+      → Made (λ (j : ℕ). enter-narrow j glyphs n at entry) 7 (k + 1) entry next
   unfolding enter-narrow
-  narrow-turn k at line = simp add-one
+  narrow-turn made e = record { within = omega arith; kept = ap length e ∙ length-or-in _ _ _ ∙ made .kept; same = rw add-one (cc) }
 
   -- one column more, elongated
-  pub wide-turn : (k at : ℕ) (line : List ℕ)
-      → or-in (at + (2 * k + 1)) (column glyphs n k) (or-in (at + 2 * k) (column glyphs n k) (enter-wide k glyphs n at line))
-      ≡ enter-wide (k + 1) glyphs n at line
+  pub wide-turn : {first next : List ℕ} → Made (λ (j : ℕ). enter-wide j glyphs n at entry) 7 k entry line → first ≡ or-in (at + 2 * k) wires line
+      → next ≡ or-in (at + (2 * k + 1)) wires first → Made (λ (j : ℕ). enter-wide j glyphs n at entry) 7 (k + 1) entry next
   unfolding enter-wide
-  wide-turn k at line = simp add-one
-
--- the highest wire is tested first
-pub share-turn : (w a b : ℕ) → 0 < w → share w a b ≡ ((eqb (bit a (w - 1)) 1 && eqb (bit b (w - 1)) 1) || share (w - 1) a b)
-unfolding share
-share-turn zero a b h = absurd (omega arith)
-share-turn (suc w) a b h = simp sub-one
-
--- the last glyph is tested first
-pub all-turn : (k : ℕ) (glyphs : List ℕ) → 0 < k → all-well-formed k glyphs ≡ (well-formed glyphs (k - 1) && all-well-formed (k - 1) glyphs)
-unfolding all-well-formed
-all-turn zero glyphs h = absurd (omega arith)
-all-turn (suc k) glyphs h = simp sub-one
+  wide-turn made d e =
+      record {
+        within = omega arith;
+        kept = ap length e ∙ length-or-in _ _ _ ∙ ap length d ∙ length-or-in _ _ _ ∙ made .kept;
+        same = rw add-one (cc);
+      }
 
 -- one column more is underscored
-pub underscore-turn : (k at : ℕ) (line : List ℕ) → or-in (at + 2 * k) 1 (underscore k at line) ≡ underscore (k + 1) at line
+pub underscore-turn : (at n : ℕ) (entry : List ℕ) {k : ℕ} {line next : List ℕ} → k < n → Made (λ (j : ℕ). underscore j at entry) n k entry line
+    → next ≡ or-in (at + 2 * k) 1 line → Made (λ (j : ℕ). underscore j at entry) n (k + 1) entry next
 unfolding underscore
-underscore-turn k at line = simp add-one
+underscore-turn at n entry more made e = record { within = omega arith; kept = ap length e ∙ length-or-in _ _ _ ∙ made .kept; same = rw add-one (cc) }

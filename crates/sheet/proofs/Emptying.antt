@@ -1,25 +1,42 @@
 -- Emptying a page or a line store, one number after another.
-use Prim.Native.Nat.{ℕ, _+_, _<_}
-use mathlib.Core.Path.{_≡_, ap, _∙_}
+use Prim.Native.Nat.{ℕ, _+_, _≤_, _<_}
+use mathlib.Core.Path.{_≡_, refl, ap, _∙_}
 use mathlib.Core.List.{List, _++_, append-nil}
-use lib.ListN.{length, set, drop, replicate}
+use native.Mathlib.Omega.{arith}
+use lib.ListN.{length, length-set, set, drop, replicate}
 use lib.Seq.{drop-length}
 use borrow.Author.Fill.{fill-more}
 use Rattle.sheet.specs.declared.Form.{Form}
 use Rattle.sheet.specs.Edition.{Edition}
 use Rattle.sheet.specs.Form.{blank-page, empty-line, page-bytes}
 
-module _ (start now : List ℕ) (i : ℕ) (so-far : now ≡ replicate i 0 ++ drop i start) where
+-- The first i numbers are 0, and the others as they were.
+pub record Emptied (entry : List ℕ) (i : ℕ) (now : List ℕ) : Type 0 where
+  pub same : now ≡ replicate i 0 ++ drop i entry
+  pub within : i ≤ length entry
+  pub kept : length now ≡ length entry
+
+pub none-emptied : (entry : List ℕ) → Emptied entry 0 entry
+none-emptied entry = record { same = refl; within = omega arith; kept = refl }
+
+module _ {entry now : List ℕ} {i : ℕ} (so-far : Emptied entry i now) where
   -- one number more is 0
-  pub emptied-more : i < length start → set now i 0 ≡ replicate (i + 1) 0 ++ drop (i + 1) start
-  emptied-more h = ap (λ (l : List ℕ). set l i 0) so-far ∙ fill-more i 0 start h
+  pub emptied-more : i < length now → Emptied entry (i + 1) (set now i 0)
+  emptied-more more =
+      let inside : i < length entry = omega (arith, so-far .kept) in
+      record {
+        same = ap (λ (l : List ℕ). set l i 0) (so-far .same) ∙ fill-more i 0 entry inside;
+        within = omega arith;
+        kept = length-set now i 0 ∙ so-far .kept;
+      }
 
   -- at the end all are 0
-  pub emptied : i ≡ length start → now ≡ replicate (length start) 0
-  emptied e =
-      so-far
-      ∙ ap (λ (n : ℕ). replicate n 0 ++ drop n start) e
-      ∙ ap (λ (l : List ℕ). replicate (length start) 0 ++ l) (drop-length start)
+  pub emptied : length now ≤ i → now ≡ replicate (length entry) 0
+  emptied end =
+      let last : i ≡ length entry = omega (arith, so-far .within, so-far .kept) in
+      so-far .same
+      ∙ ap (λ (n : ℕ). replicate n 0 ++ drop n entry) last
+      ∙ ap (λ (l : List ℕ). replicate (length entry) 0 ++ l) (drop-length entry)
       ∙ append-nil _
 
 -- a page of its length that is all 0 is a blank page

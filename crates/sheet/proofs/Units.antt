@@ -1,6 +1,6 @@
 -- The lines of a form and its rows, and the lengths of a blank page and an empty line.
 use Prim.Native.Nat.{ℕ, suc, _+_, _-_, _*_, _/_, _≤_, _<_}
-use mathlib.Core.Path.{_≡_, sym, ap, _∙_}
+use mathlib.Core.Path.{_≡_, sym, _∙_}
 use mathlib.Core.Bool.{Bool, true, false, cond}
 use native.Mathlib.Omega.{arith}
 use native.Mathlib.Nat.{mul-le-mul-left, mul-le-mul-right, div-lt-iff-lt-mul, zero-mul}
@@ -12,7 +12,8 @@ use Rattle.sheet.specs.declared.Form.{Form}
 use Rattle.sheet.specs.declared.Line.{Line}
 use Rattle.sheet.specs.declared.Row.{Row}
 use Rattle.sheet.specs.Edition.{Edition, lp2}
-use Rattle.sheet.specs.Form.{blank-page, empty-line, first-row, fits, form-rows, line-of, page-bytes, rows-per-line, top}
+use Rattle.sheet.specs.Form.{blank-page, empty-line, first-row, fits, form-rows, line-of, rows-per-line, top}
+use Rattle.sheet.specs.Form.{lines-allowed, spacing-allowed, page-bytes, page-size}
 
 -- a line has nine rows at least, one for each wire
 pub nine-rows : (spacing : ℕ) → 9 ≤ rows-per-line spacing
@@ -41,6 +42,22 @@ form-rows-most f h = omega (arith, mul-le-mul-right (rows-per-line (f .spacing))
 pub page-bytes-most : (f : Form) → f .lines ≤ 99 → page-bytes lp2 f ≤ 980100
 unfolding page-bytes lp2
 page-bytes-most f h = omega (arith, form-rows-most f h)
+
+module _ (e : Edition) (lines spacing : ℕ) where
+  -- the page of a form that both tests allow
+  pub page-sized : lines-allowed e lines ≡ true → spacing-allowed spacing ≡ true
+      → page-bytes e (record { lines = lines; spacing = spacing }) ≡ page-size e lines spacing
+  unfolding page-size
+  page-sized h k = simp (h, k)
+
+  -- where one of them fails there is none
+  pub lines-refused : lines-allowed e lines ≡ false → 0 ≡ page-size e lines spacing
+  unfolding page-size
+  lines-refused h = simp h
+
+  pub spacing-refused : lines-allowed e lines ≡ true → spacing-allowed spacing ≡ false → 0 ≡ page-size e lines spacing
+  unfolding page-size
+  spacing-refused h k = simp (h, k)
 
 -- a line up to line 128 has its first row at 1,524 at most
 pub first-row-most : (f : Form) (n : Line) → n .0 ≤ 128 → first-row f n .0 ≤ 1524

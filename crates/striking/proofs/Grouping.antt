@@ -7,20 +7,19 @@ use native.Mathlib.Nat.{mul-comm, pow-suc, add-zero, zero-add, add-comm, zero-mu
 use native.Mathlib.Numerals.{add-one}
 use lib.Pow.{pow-add, pow-mono, pow-pos, pow-lt, shr-shr, split, high, low, field, mod-mod-pow}
 use lib.Bits.{bitAnd, bitOr, or-add-and, and-le-l, and-le-r, and-zero-r, and-block, and-mask}
-use lib.ListN.{length, getD, set, take, drop, drop-of-length-le, length-drop}
+use lib.ListN.{length, getD, take, drop, drop-of-length-le, length-drop}
 use lib.Seq.{drop-cons, drop-length, getD-take, getD-drop, length-take-le}
 use mir.Syntax.{w64}
 use mir.Val.{Fits}
 use Rattle.sheet.specs.declared.Grid.{Grid}
 use Rattle.sheet.specs.declared.Pitch.{Pitch}
-use Rattle.sheet.specs.declared.Pitch.the-variants.{Normal, Compressed}
 use Rattle.sheet.specs.declared.Row.{Row}
 use Rattle.sheet.specs.Edition.{lp2}
 use Rattle.sheet.specs.Form.{lower}
 use Rattle.sheet.specs.Dots.{bit, blacken-all, mark-if, dot-at, wire-marks, column-marks, line-marks}
 use Rattle.striking.specs.Groups.{any-wires, fields, ones, wire-dots, join-byte, join}
 use Rattle.sheet.proofs.Blackening.{bit-lt, blacken-all-append}
-use Rattle.striking.proofs.Joining.{blacken-all-swap, mark-first, bit-marks, bit-marks-moved, bit-marks-last, length-join, joined}
+use Rattle.striking.proofs.Joining.{blacken-all-swap, mark-first, bit-marks, bit-marks-moved, bit-marks-last, joined}
 
 -- a bit below bit s does not depend on the bits from s on
 low-bit : (n k j : ℕ) → bit n k ≡ bit (n % 2 ^ (suc j + k)) k
@@ -111,7 +110,7 @@ lone-marks z j d (x ∷ xs) n f =
     ∙ bit-marks-last d n f z b rest (bit-lt x j)
 
 -- joining the bytes of a wire's dots strikes that wire of eight columns
-wire-joined : (page columns : List ℕ) (at z skip k w : ℕ) → length columns ≡ 8 → at + suc z ≤ length page → k < suc z
+pub wire-joined : (page columns : List ℕ) (at z skip k w : ℕ) → length columns ≡ 8 → at + suc z ≤ length page → k < suc z
     → w ≡ fields (2 ^ suc z) skip columns 0
     → join page at (suc z) (wire-dots (2 ^ suc z) w k) ≡ blacken-all page (wire-row (skip + k) columns (at * 8) (suc z))
 unfolding wire-dots bit-marks ones
@@ -171,7 +170,7 @@ unfolding dot-at lp2
 dot-after r g h s e = omega arith
 
 -- columns struck row by row are struck column by column
-rows-line : (pitch : Pitch) (s : ℕ) → ((c : ℕ) → lp2 .grid pitch (c + 1) .0 ≡ lp2 .grid pitch c .0 + s) → (page columns : List ℕ) (r : Row) (c d : ℕ)
+pub rows-line : (pitch : Pitch) (s : ℕ) → ((c : ℕ) → lp2 .grid pitch (c + 1) .0 ≡ lp2 .grid pitch c .0 + s) → (page columns : List ℕ) (r : Row) (c d : ℕ)
     → d ≡ dot-at lp2 r (lp2 .grid pitch c) → blacken-all page (rows 9 columns d s) ≡ blacken-all page (line-marks lp2 columns pitch r c)
 unfolding line-marks column-marks
 rows-line pitch s apart page [] r c d e = ap (blacken-all page) (rows-none 9 d s)
@@ -186,70 +185,25 @@ rows-line pitch s apart page (x ∷ xs) r c d e =
 pub masked-fits : (x mask up : ℕ) → mask * up < 2 ^ 64 → Fits w64 (bitAnd x mask * up)
 masked-fits x mask up h = omega (arith, mul-le-mul-right up (and-le-r x mask))
 
--- a byte joined as `join` joins it: to a page, at a place and with dots that are the same
-pub byte-joined : (page before : List ℕ) (i at v dots : ℕ) → page ≡ before → i ≡ at → v ≡ dots → set page i (bitOr (getD page i 0) (v % 256)) ≡ join-byte before at dots
-unfolding join-byte
-byte-joined page before i at v dots p q e =
-    ap (λ (l : List ℕ). set l i (bitOr (getD l i 0) (v % 256))) p ∙ ap₂ (λ (j u : ℕ). set before j (bitOr (getD before j 0) (u % 256))) q e
+-- three bytes joined one after the other, the highest first, are a number joined
+pub three-joined : {one two three : List ℕ} (page : List ℕ) (at dots : ℕ) → one ≡ join-byte page at (dots / 65536)
+    → two ≡ join-byte one (at + 1) (dots / 256) → three ≡ join-byte two (at + 2) dots → three ≡ join page at 3 dots
+unfolding join
+three-joined page at dots a b c =
+    let first : at ≡ at + 0 = omega arith in
+    let high : dots / 65536 ≡ dots / 256 / 256 = omega arith in
+    cc (ap₂ (join-byte page) first high)
 
--- The n lowest wires of some columns make of the page what all nine make of it at entry; the next strikes the bytes from `at` on, and its row and
--- those below it are on the page.
-pub record Left (all columns : List ℕ) (z n at : ℕ) (page : List ℕ) : Type 0 where
-  pub same : blacken-all page (rows n columns (at * 8) (suc z)) ≡ all
-  pub room : at + 825 * n + suc z ≤ length page + 825
-
--- striking a wire keeps the page's length
-pub wire-length : (page next : List ℕ) (at n w : ℕ) → next ≡ join page at n w → length next ≡ length page
-wire-length page next at n w e = ap length e ∙ length-join page at n w
-
--- one wire more is struck: the one at bit k of the fields w, in the row that is next
-pub wire-struck : (all columns page next : List ℕ) (z skip n at k w here : ℕ) → Left all columns z (suc n) at page
-    → next ≡ join page here (suc z) (wire-dots (2 ^ suc z) w k) → here ≡ at → n ≡ skip + k → k < suc z → w ≡ fields (2 ^ suc z) skip columns 0
-    → length columns ≡ 8 → Left all columns z n (at + 825) next
-unfolding rows
-wire-struck all columns page next z skip n at k w here left struck row bits h e eight =
-    let room : at + suc z ≤ length page = omega (arith, left .room) in
-    let turn : next ≡ blacken-all page (wire-row n columns (at * 8) (suc z)) =
-    struck
-    ∙ ap (λ (i : ℕ). join page i (suc z) (wire-dots (2 ^ suc z) w k)) row
-    ∙ wire-joined page columns at z skip k w eight room h e
-    ∙ ap (λ (j : ℕ). blacken-all page (wire-row j columns (at * 8) (suc z))) (sym bits) in
-    let place : (at + 825) * 8 ≡ at * 8 + 6600 = omega arith in
-    let size : length next ≡ length page = wire-length page next here (suc z) _ struck in
-    record {
-      same =
-          ap₂ (λ (p : List ℕ) (d : ℕ). blacken-all p (rows n columns d (suc z))) turn place
-          ∙ sym (blacken-all-append page (wire-row n columns (at * 8) (suc z)) (rows n columns (at * 8 + 6600) (suc z)))
-          ∙ left .same;
-      room = omega (arith, left .room);
-    }
-
--- before the first wire all nine are left
-pub none-struck : (columns page : List ℕ) (z at : ℕ) → at + 6600 + suc z ≤ length page
-    → Left (blacken-all page (rows 9 columns (at * 8) (suc z))) columns z 9 at page
-none-struck columns page z at h = record { same = refl; room = omega arith }
-
--- columns stand 5 apart in normal pitch
-normal-apart : (c : ℕ) → lp2 .grid Normal (c + 1) .0 ≡ lp2 .grid Normal c .0 + 5
-unfolding lp2
-normal-apart c = omega arith
-
--- columns stand 3 apart in compressed pitch
-compressed-apart : (c : ℕ) → lp2 .grid Compressed (c + 1) .0 ≡ lp2 .grid Compressed c .0 + 3
-unfolding lp2
-compressed-apart c = omega arith
-
--- after the ninth the columns are struck, in normal pitch
-pub normal-struck : (columns page next : List ℕ) (r : Row) (c at end : ℕ) → at * 8 ≡ dot-at lp2 r (lp2 .grid Normal c)
-    → Left (blacken-all page (rows 9 columns (at * 8) 5)) columns 4 0 end next → next ≡ blacken-all page (line-marks lp2 columns Normal r c)
-unfolding rows blacken-all
-normal-struck columns page next r c at end place left = left .same ∙ rows-line Normal 5 normal-apart page columns r c (at * 8) place
-
--- after the ninth the columns are struck, in compressed pitch
-pub compressed-struck : (columns page next : List ℕ) (r : Row) (c at end : ℕ) → at * 8 ≡ dot-at lp2 r (lp2 .grid Compressed c)
-    → Left (blacken-all page (rows 9 columns (at * 8) 3)) columns 2 0 end next → next ≡ blacken-all page (line-marks lp2 columns Compressed r c)
-unfolding rows blacken-all
-compressed-struck columns page next r c at end place left = left .same ∙ rows-line Compressed 3 compressed-apart page columns r c (at * 8) place
+-- and so are five
+pub five-joined : {one two three four five : List ℕ} (page : List ℕ) (at dots : ℕ) → one ≡ join-byte page at (dots / 4294967296)
+    → two ≡ join-byte one (at + 1) (dots / 16777216) → three ≡ join-byte two (at + 2) (dots / 65536) → four ≡ join-byte three (at + 3) (dots / 256)
+    → five ≡ join-byte four (at + 4) dots → five ≡ join page at 5 dots
+unfolding join
+five-joined {one} page at dots a b c d e =
+    let fifth : dots / 4294967296 ≡ dots / 65536 / 65536 = omega arith in
+    let fourth : dots / 16777216 ≡ dots / 65536 / 256 = omega arith in
+    let third : dots / 65536 ≡ dots / 256 / 256 = omega arith in
+    cc (three-joined page at (dots / 65536) (a ∙ ap (join-byte page at) fifth) (b ∙ ap (join-byte one (at + 1)) fourth) c)
 
 -- an `or` that is 0 is of two numbers that are
 or-none : (a b : ℕ) → bitOr a b ≡ 0 → (a ≡ 0) × (b ≡ 0)
@@ -291,21 +245,28 @@ module _ (line : List ℕ) (c : ℕ) (inside : c + 8 ≤ length line) where
       ∙ ap (λ (l : List ℕ). fields base skip l f) (sym first)
       ∙ so-far
 
-  -- column k of the eight is joined to the wires of those behind it
-  pub any-more : (k all : ℕ) → k < 8 → all ≡ any-wires (drop (k + 1) (take 8 (drop c line)))
-      → bitOr (getD line (c + k) 0) all ≡ any-wires (drop k (take 8 (drop c line)))
-  unfolding any-wires
-  any-more k all h so-far =
-      let eight : List ℕ = take 8 (drop c line) in
-      let within : k < length eight = omega (arith, eight-long) in
-      let first : drop k eight ≡ getD eight k 0 ∷ drop (k + 1) eight = rw (add-one, drop-cons eight k 0) in
-      let here : getD eight k 0 ≡ getD line (c + k) 0 = getD-take 8 (drop c line) k 0 h ∙ getD-drop c line k 0 in
-      ap₂ bitOr (sym here) so-far ∙ ap any-wires (sym first)
-
   -- behind the eighth column there is none
   pub any-none : 0 ≡ any-wires (drop 8 (take 8 (drop c line)))
   unfolding any-wires
   any-none = let all : length (take 8 (drop c line)) ≤ 8 = omega (arith, eight-long) in ap any-wires (sym (drop-of-length-le (take 8 (drop c line)) all))
+
+  -- the column before column k is joined to the wires of those from k on
+  pub any-more : (k any : ℕ) → 0 < k → k ≤ 8 → any ≡ any-wires (drop k (take 8 (drop c line)))
+      → bitOr (getD line (c + (k - 1)) 0) any ≡ any-wires (drop (k - 1) (take 8 (drop c line)))
+  unfolding any-wires
+  any-more k any h most so-far =
+      let eight : List ℕ = take 8 (drop c line) in
+      let within : k - 1 < length eight = omega (arith, eight-long) in
+      let same : suc (k - 1) ≡ k = omega arith in
+      let first : drop (k - 1) eight ≡ getD eight (k - 1) 0 ∷ drop k eight =
+      drop-cons eight (k - 1) 0 within ∙ ap (λ (n : ℕ). getD eight (k - 1) 0 ∷ drop n eight) same in
+      let here : getD eight (k - 1) 0 ≡ getD line (c + (k - 1)) 0 = getD-take 8 (drop c line) (k - 1) 0 (omega arith) ∙ getD-drop c line (k - 1) 0 in
+      ap₂ bitOr (sym here) so-far ∙ ap any-wires (sym first)
+
+  -- from column 0 on there are all
+  pub any-all : (k any : ℕ) → k ≤ 0 → any ≡ any-wires (drop k (take 8 (drop c line))) → any ≡ any-wires (take 8 (drop c line))
+  any-all zero any h so-far = so-far
+  any-all (suc k) any h so-far = absurd (omega arith)
 
   -- after the eighth column the fields are whole
   pub field-last : (base skip k f all : ℕ) → k ≡ 8 → fields base skip (drop k (take 8 (drop c line))) f ≡ all → f ≡ all
@@ -322,8 +283,8 @@ field-below f base y k h l below =
     let power : 2 ^ (5 * (k + 1)) ≡ 2 ^ (5 * k) * 32 = ap (λ (n : ℕ). 2 ^ n) more ∙ pow-add 2 (5 * k) 5 in
     omega (arith, mul-le-mul-left f h)
 
--- eight fields are far below what a number of 64 bits holds
-pub fields-small : (f k : ℕ) → k ≤ 8 → f < 2 ^ (5 * k) → f < 2 ^ 40
-fields-small f k h below =
-    let most : 2 ^ (5 * k) ≤ 2 ^ 40 = pow-mono {j = 40} (omega arith) in
-    omega arith
+-- and eight fields take forty at most
+pub fields-small : (f base y k : ℕ) → base ≤ 32 → y < base → f < 2 ^ (5 * k) → k < 8 → f * base + y < 2 ^ 40
+fields-small f base y k h l below more =
+    let most : 2 ^ (5 * (k + 1)) ≤ 2 ^ 40 = pow-mono {j = 40} (omega arith) in
+    omega (arith, field-below f base y k h l below)

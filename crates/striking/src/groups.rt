@@ -8,7 +8,7 @@ ghost use Rattle.sheet.specs.declared.Row.{Row};
 ghost use Rattle.sheet.specs.declared.Pitch.the-variants.{Normal, Compressed};
 ghost use Rattle.sheet.specs.Edition.{lp2};
 ghost use Rattle.sheet.specs.Dots.{blacken-all, dot-at, line-marks};
-ghost use Rattle.striking.specs.Groups.{any-wires, fields, wire-dots, join};
+ghost use Rattle.striking.specs.Groups.{any-wires, fields, wire-dots, join-byte, join};
 ghost use Rattle.striking.specs.Room.{Room};
 use sheet::Pitch;
 use sheet::Row;
@@ -44,6 +44,14 @@ fn fields(line: &[u16], c: usize, base: u64, skip: u32) -> u64
     f
 }
 
+// Joins the lowest byte of `dots` to byte i of the page.
+fn join_byte(page: &mut [u8], i: usize, dots: u64)
+    requires { ⌜ i < length (now page) ⌝ }
+    ensures { λ _. ⌜ now (page .exit) ≡ join-byte (now (page .entry)) i dots ⌝ }
+{
+    page[i] = page[i] | ((dots % 256) as u8);
+}
+
 // Strikes one wire of eight columns in normal pitch: the one at bit `wire` of each field. Its dots are in the five bytes from `at` on.
 // The mask keeps one bit of each field of five, and a column's dot is at the top of its five positions.
 fn wire_normal(page: &mut [u8], at: usize, fields: u64, wire: u32)
@@ -51,11 +59,11 @@ fn wire_normal(page: &mut [u8], at: usize, fields: u64, wire: u32)
     ensures { λ _. ⌜ now (page .exit) ≡ join (now (page .entry)) at 5 (wire-dots 32 fields wire) ⌝ }
 {
     let dots = ((fields >> wire) & 0x842108421) * 16;
-    page[at] = page[at] | ((dots / 0x100000000 % 256) as u8);
-    page[at + 1] = page[at + 1] | ((dots / 0x1000000 % 256) as u8);
-    page[at + 2] = page[at + 2] | ((dots / 0x10000 % 256) as u8);
-    page[at + 3] = page[at + 3] | ((dots / 0x100 % 256) as u8);
-    page[at + 4] = page[at + 4] | ((dots % 256) as u8);
+    join_byte(page, at, dots / 0x100000000);
+    join_byte(page, at + 1, dots / 0x1000000);
+    join_byte(page, at + 2, dots / 0x10000);
+    join_byte(page, at + 3, dots / 0x100);
+    join_byte(page, at + 4, dots);
 }
 
 // Strikes one wire of eight columns in compressed pitch: the one at bit `wire` of each field. Its dots are in the three bytes from `at` on.
@@ -65,9 +73,9 @@ fn wire_compressed(page: &mut [u8], at: usize, fields: u64, wire: u32)
     ensures { λ _. ⌜ now (page .exit) ≡ join (now (page .entry)) at 3 (wire-dots 8 fields wire) ⌝ }
 {
     let dots = ((fields >> wire) & 0x249249) * 4;
-    page[at] = page[at] | ((dots / 0x10000 % 256) as u8);
-    page[at + 1] = page[at + 1] | ((dots / 0x100 % 256) as u8);
-    page[at + 2] = page[at + 2] | ((dots % 256) as u8);
+    join_byte(page, at, dots / 0x10000);
+    join_byte(page, at + 1, dots / 0x100);
+    join_byte(page, at + 2, dots);
 }
 
 // Strikes the nine wires of eight columns in normal pitch, each a row below the one before: wires 1 to 4 are in the fields `high`, 5 to 9

@@ -1,4 +1,4 @@
--- `entering::enter_glyph` meets its contract: a cell of 20 columns where it is elongated, of 10 where it is not, has room.
+-- `entering::enter_glyph`: a cell of 20 columns where it is elongated, of 10 where it is not, has room for the glyph.
 mod Places
 use mathlib.Core.Path.{ap, _∙_}
 use native.Mathlib.Omega.{arith}

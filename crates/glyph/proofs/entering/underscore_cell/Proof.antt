@@ -1,10 +1,8 @@
--- `entering::underscore_cell` meets its contract.
+-- `entering::underscore_cell`: half the columns of a cell are ten where it is elongated, and five where it is not.
 mod Places
-use Prim.Native.Nat.{_+_, _≤_}
-use mathlib.Core.Path.{_∙_}
+use mathlib.Core.Path.{ap, _∙_}
 use native.Mathlib.Omega.{arith}
 use borrow.Author.Needs.{needs}
-use lib.ListN.{length}
 use Rattle.glyph.specs.Entering.{cell}
 use Rattle.glyph.proofs.entering.underscore_cell.Statement.{statement}
 use Rattle.glyph.proofs.entering.underscore_cell.Tie as tie
@@ -12,17 +10,11 @@ use Places.*
 
 underscore-requires : tie.Need-underscore-requires
 unfolding cell
-underscore-requires c κs =
-    let start = c .before .before .before in
-    let room : start .args .at + 20 ≤ length (start .args .line .now) = simp (c .before .if1 .taken) at (start .pre) in
-    omega arith
+underscore-requires c κs = omega (arith, c .before .before .before .pre, ap cell (c .before .if1 .taken))
 
 underscore-requires-2 : tie.Need-underscore-requires-2
 unfolding cell
-underscore-requires-2 c κs =
-    let start = c .before .before .before in
-    let room : start .args .at + 10 ≤ length (start .args .line .now) = simp (c .before .if1 .left) at (start .pre) in
-    omega arith
+underscore-requires-2 c κs = omega (arith, c .before .before .before .pre, ap cell (c .before .if1 .left))
 
 returns : tie.Need-returns
 unfolding cell

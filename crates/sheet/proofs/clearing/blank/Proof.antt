@@ -1,31 +1,19 @@
--- `clearing::blank` meets its contract. The loop's invariant: the first `i` bytes are 0, and the others are as they were.
-use Prim.Native.Nat.{_-_, _≤_}
-use mathlib.Core.Path.{_≡_, refl}
-use mathlib.Core.List.{_++_}
-use native.Mathlib.Omega.{arith}
-use lib.ListN.{length, drop, replicate, length-set}
+-- `clearing::blank`: each turn makes one of the bytes 0, so that the first `i` are 0 and the others as they were; at the end all are 0.
+use Prim.Native.Nat.{_-_}
+use lib.ListN.{length}
 use borrow.Author.Needs.{needs}
-use Rattle.sheet.proofs.Emptying.{emptied-more, emptied}
+use Rattle.sheet.proofs.Emptying.{Emptied, none-emptied, emptied-more, emptied}
 use Rattle.sheet.proofs.clearing.blank.Statement.{statement}
 use Rattle.sheet.proofs.clearing.blank.Tie as tie
 
 abbrev Inv-loop : tie.InvT-loop
-Inv-loop page₀ i₀ page i = (page ≡ replicate i 0 ++ drop i page₀) × (i ≤ length page₀) × (length page ≡ length page₀)
+Inv-loop page₀ i₀ page i = Emptied page₀ i page
 
 abbrev μ-loop : tie.MeasureT-loop
 μ-loop page₀ i₀ page i = length page₀ - i
 
-loop-holds : tie.Need-loop-holds Inv-loop μ-loop
-loop-holds c = (refl, search needs, refl)
-
-loop-again : tie.Need-loop-again Inv-loop μ-loop
-loop-again c =
-    (emptied-more _ _ _ (c .before .loop .inv .0) (omega arith), search needs, simp length-set (c .before .loop .inv .2))
-
-returns : tie.Need-returns Inv-loop μ-loop
-returns c = emptied (c .before .before .args .page .now) _ (c .before .loop .i) (c .before .loop .inv .0) (omega arith)
-
 pub blank-spec : {M : Type 1} → statement M
 blank-spec =
     tie.close
-    (tie.spec Inv-loop μ-loop loop-holds (λ c. search needs) (λ c. search needs) (λ c. search needs) loop-again (λ c. search needs) returns)
+    (tie.spec Inv-loop μ-loop (λ c. none-emptied _) (λ c. search needs) (λ c. search needs) (λ c. search needs)
+    (λ c. emptied-more (c .before .loop .inv) (search needs)) (λ c. search needs) (λ c. emptied (c .before .loop .inv) (search needs)))

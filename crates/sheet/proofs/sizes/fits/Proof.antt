@@ -1,4 +1,4 @@
--- `sizes::fits` meets its contract.
+-- `sizes::fits`: where a form has nine rows the test is the same without a sum; where it has fewer there is no room.
 use Prim.Native.Nat.{_+_}
 use mathlib.Core.Path.{ap, _∙_}
 use lib.Dec.{leb}

@@ -1,4 +1,4 @@
--- `sizes::grid` meets its contract.
+-- `sizes::grid`: each arm is the definition at the pitch that the match has found.
 use mathlib.Core.Path.{sym, ap}
 use borrow.Author.Needs.{needs}
 use Rattle.sheet.specs.declared.Pitch.{Pitch}

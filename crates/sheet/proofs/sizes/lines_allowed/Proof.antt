@@ -1,4 +1,4 @@
--- `sizes::lines_allowed` meets its contract.
+-- `sizes::lines_allowed`: where the first test fails the second isn't made, and the whole is false.
 use borrow.Author.Tests.{le-leb, lt-leb}
 use Rattle.sheet.specs.Edition.{lp2}
 use Rattle.sheet.specs.Form.{lines-allowed}

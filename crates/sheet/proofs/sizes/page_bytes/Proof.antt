@@ -1,4 +1,4 @@
--- `sizes::page_bytes` meets its contract.
+-- `sizes::page_bytes`: a form's rows are few, so that 825 times as many bytes are no large number.
 use Prim.Native.Nat.{ℕ, _*_}
 use mathlib.Core.Path.{ap}
 use borrow.Author.Needs.{needs}

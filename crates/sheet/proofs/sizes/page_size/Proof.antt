@@ -1,4 +1,4 @@
--- `sizes::page_size` meets its contract: the form is one where both tests hold, and there is no page where one fails.
+-- `sizes::page_size`: the form is one where both tests hold, and there is no page where one fails.
 use borrow.Author.Needs.{needs}
 use mathlib.Core.Bool.{and-eq-true-iff, true}
 use mathlib.Core.Path.{_≡_, sym, _∙_}
@@ -6,45 +6,32 @@ use Prim.Native.Nat.{_≤_}
 use borrow.Author.Tests.{leb-true, not-false, not-true}
 use lib.Dec.{leb}
 use Rattle.sheet.specs.Edition.{lp2}
-use Rattle.sheet.specs.Form.{lines-allowed, page-size}
-use Rattle.sheet.proofs.Units.{page-bytes-most}
+use Rattle.sheet.specs.Form.{lines-allowed}
+use Rattle.sheet.proofs.Units.{lines-refused, spacing-refused, page-sized, page-bytes-most}
 use Rattle.sheet.proofs.sizes.page_size.Statement.{statement}
 use Rattle.sheet.proofs.sizes.page_size.Tie as tie
 
 -- the lines are in range after the first test
 lines-right : (c : tie.Else1) → lines-allowed lp2 (c .before .before .args .lines) ≡ true
-lines-right c = sym (c .before .lines-allowed .ensures) ∙ not-false (c .before .lines-allowed .result) (c .if1 .left)
+lines-right c = sym (c .before .lines-allowed .ensures) ∙ not-false _ (c .if1 .left)
 
 most : (c : tie.Else1) → c .before .before .args .lines ≤ 99
 unfolding lines-allowed lp2
 most c = leb-true _ 99 (and-eq-true-iff (leb 1 (c .before .before .args .lines)) (leb (c .before .before .args .lines) 99) .0 (lines-right c) .1)
 
 returns : tie.Need-returns
-unfolding page-size
-returns c = (simp (← c .before .lines-allowed .ensures, not-true (c .before .lines-allowed .result) (c .if1 .taken)), search needs)
+returns c = (lines-refused _ _ _ (sym (c .before .lines-allowed .ensures) ∙ not-true _ (c .if1 .taken)), search needs)
 
 returns-2 : tie.Need-returns-2
-unfolding page-size
-returns-2 c = (
-  simp (lines-right (c .before .before), ← c .before .spacing-allowed .ensures, not-true (c .before .spacing-allowed .result) (c .if2 .taken)),
-  search needs,
-)
-
-page-bytes-requires : tie.Need-page-bytes-requires
-page-bytes-requires c κs = most (c .before .before)
+returns-2 c =
+    (spacing-refused _ _ _ (lines-right (c .before .before)) (sym (c .before .spacing-allowed .ensures) ∙ not-true _ (c .if2 .taken)), search needs)
 
 returns-3 : tie.Need-returns-3
-unfolding page-size
 returns-3 c =
-    let on = c .before .before .before in (
-      simp (
-        lines-right on,
-        ← c .before .before .spacing-allowed .ensures,
-        not-false (c .before .before .spacing-allowed .result) (c .before .if2 .left),
-      )
-          (c .page-bytes .ensures),
-      rw (c .page-bytes .ensures) (page-bytes-most _ (most on)),
-    )
+    let on = c .before .before .before in
+    let spacing-right = sym (c .before .before .spacing-allowed .ensures) ∙ not-false _ (c .before .if2 .left) in
+    (c .page-bytes .ensures ∙ page-sized _ _ _ (lines-right on) spacing-right, rw (c .page-bytes .ensures) (page-bytes-most _ (most on)))
 
 pub page-size-spec : {M : Type 1} → statement M
-page-size-spec = tie.close (tie.spec (λ c κs. search needs) returns (λ c κs. search needs) returns-2 page-bytes-requires returns-3)
+page-size-spec =
+    tie.close (tie.spec (λ c κs. search needs) returns (λ c κs. search needs) returns-2 (λ c κs. most (c .before .before)) returns-3)

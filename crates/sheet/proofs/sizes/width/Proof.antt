@@ -1,4 +1,4 @@
--- `sizes::width` meets its contract.
+-- `sizes::width`: each arm is the definition at the pitch that the match has found.
 use mathlib.Core.Path.{sym, ap}
 use borrow.Author.Needs.{needs}
 use Rattle.sheet.specs.Edition.{lp2, lp2-width}

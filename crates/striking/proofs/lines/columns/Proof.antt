@@ -1,75 +1,46 @@
--- `lines::columns` meets its contract. The loop's invariant: the marks of the columns left make of the page what those of all make of it at entry.
+-- `lines::columns`: each turn strikes the eight columns that are next; the columns left make of the page what all make of it at entry, and at W
+-- none is left.
 mod Places
-use Prim.Native.Nat.{_-_, _%_, _≤_, _<_}
-use mathlib.Core.Path.{_≡_, refl, sym, ap, _∙_}
+use Prim.Native.Nat.{_-_, _<_}
 use native.Mathlib.Omega.{arith}
-use lib.ListN.{length, take, drop}
 use borrow.Author.Needs.{needs}
 use Rattle.sheet.specs.Edition.{lp2}
-use Rattle.sheet.specs.Dots.{blacken-all, line-marks, struck}
-use Rattle.sheet.proofs.Blackening.{length-blacken-all}
-use Rattle.striking.proofs.Striking.{below-store, eight-below, eight-struck, none-left, all-left}
+use Rattle.striking.proofs.Striking.{below-store, Left, all-left, eight-struck, none-left}
 use Rattle.striking.proofs.lines.columns.Statement.{statement}
 use Rattle.striking.proofs.lines.columns.Tie as tie
 use Places.*
 
 abbrev Inv-loop : tie.InvT-loop
-Inv-loop page₀ line row pitch w first₀ page first =
-    (blacken-all page (line-marks lp2 (drop first (take (lp2 .width pitch) line)) pitch row first) ≡ struck lp2 page₀ line row pitch)
-    × (first % 8 ≡ 0)
-    × (first ≤ lp2 .width pitch)
-    × (length page ≡ length page₀)
+Inv-loop page₀ line row pitch w first₀ page first = Left line pitch row page₀ first page
 
 abbrev μ-loop : tie.MeasureT-loop
 μ-loop page₀ line row pitch w first₀ page first = w - first
 
 loop-holds : tie.Need-loop-holds Inv-loop μ-loop
-loop-holds c = (
-  all-left (c .before .before .before .args .line .now) (c .before .before .before .args .pitch) (c .before .before .before .args .row)
-      (c .before .before .before .pre .full) (c .before .before .before .args .page .now),
-  refl,
-  omega arith,
-  refl,
-)
+loop-holds c = all-left _ _ _ _
+
+below : (c : tie.In-loop Inv-loop μ-loop) → c .before .loop .first < lp2 .width (start-at-in-loop c .args .pitch)
+below c = omega (arith, c .loop-test, c .before .before .width .ensures)
 
 eight-requires : tie.Need-eight-requires Inv-loop μ-loop
-eight-requires c κs = (
-  record {
-    rows = omega (arith, start-at-eight-requires c .pre .rows, c .before .before .loop .inv .3);
-    full = start-at-eight-requires c .pre .full;
-  },
-  (c .before .before .loop .inv .1, omega (arith, c .before .before .before .width .ensures)),
-)
+eight-requires c κs =
+    let room = start-at-eight-requires c .pre in
+    let left = c .before .before .loop .inv in
+    (record { rows = omega (arith, room .rows, left .kept); full = room .full }, (left .whole, below (c .before)))
 
 add-first : tie.Need-add-first Inv-loop μ-loop
-add-first c = omega (arith, loop-at-loop-again c .loop .inv .2, below-store (start-at-loop-again c .args .pitch))
+add-first c = omega (arith, below (in-loop-at-add-first c), below-store (start-at-add-first c .args .pitch))
 
 loop-again : tie.Need-loop-again Inv-loop μ-loop
 loop-again c =
-    let a = start-at-loop-again c .args in
-    let l = loop-at-loop-again c .loop in
-    let below : l .first < lp2 .width (a .pitch) = omega (arith, width-at-loop-again c .width .ensures) in (
-      eight-struck (a .line .now) (a .pitch) (a .row) (start-at-loop-again c .pre .full) (l .page) _ (l .first) (l .inv .1) below
-          (c .before .before .eight .ensures)
-          ∙ l .inv .0,
-      omega arith,
-      eight-below (a .pitch) (l .first) (l .inv .1) below,
-      ap length (c .before .before .eight .ensures) ∙ length-blacken-all _ _ ∙ l .inv .3,
-    )
-
-same-length : tie.Need-same-length Inv-loop μ-loop
-same-length c = c .before .loop .inv .3
+    eight-struck _ _ _ _ _ _ _ (start-at-loop-again c .pre .full) (loop-at-loop-again c .loop .inv) (below (in-loop-at-loop-again c))
+    (c .before .before .eight .ensures)
 
 returns : tie.Need-returns Inv-loop μ-loop
-returns c =
-    let a = start-at-returns c .args in
-    let l = c .before .loop in
-    sym
-    (none-left (a .line .now) (a .pitch) (a .row) (start-at-returns c .pre .full) (l .page) (l .first)
-    (omega (arith, c .before .before .width .ensures)))
-    ∙ l .inv .0
+returns c = none-left _ _ _ _ _ _ (start-at-returns c .pre .full) (c .before .loop .inv) (omega (arith, c .loop-test, c .before .before .width .ensures))
 
 pub columns-spec : {M : Type 1} → statement M
 columns-spec =
     tie.close
-    (tie.spec Inv-loop μ-loop (λ c κs. search needs) loop-holds eight-requires add-first (λ c. search needs) loop-again same-length returns)
+    (tie.spec Inv-loop μ-loop (λ c κs. search needs) loop-holds eight-requires add-first (λ c. search needs) loop-again (λ c. c .before .loop .inv .kept)
+    returns)

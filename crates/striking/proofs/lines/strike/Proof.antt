@@ -1,4 +1,4 @@
--- `lines::strike` meets its contract.
+-- `lines::strike`: the columns are struck, then the line is emptied; neither touches what the other wrote.
 mod Places
 use mathlib.Core.Path.{_∙_}
 use borrow.Author.Needs.{needs}
@@ -11,9 +11,8 @@ use Places.*
 returns : tie.Need-returns
 unfolding lp2
 returns c =
-    let struck = columns-at-returns c in
-    let start = struck .before .before .before .before .before in
-    (struck .columns .ensures, c .before .before .empty .ensures ∙ line-emptied lp2 (start .args .line .now) (start .pre .full))
+    let start = start-at-returns c in
+    (columns-at-returns c .columns .ensures, c .before .before .empty .ensures ∙ line-emptied lp2 (start .args .line .now) (start .pre .full))
 
 pub strike-spec : {M : Type 1} → statement M
 strike-spec = tie.close (tie.spec (λ c κs. search needs) (λ c κs. search needs) (λ c. search needs) (λ c. search needs) returns)

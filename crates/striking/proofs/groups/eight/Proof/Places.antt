@@ -25,11 +25,11 @@ start-at-eight-compressed-requires c = c .before .before .before .before .before
 abbrev pub start-at-eight-normal-requires : tie.After-eight-normal-arg → tie.Start
 start-at-eight-normal-requires c = c .before .before .before .before .before .before .before .before .before .before
 
+abbrev pub start-at-grid : tie.After-grid → tie.Start
+start-at-grid c = c .before .before .before .before .before
+
 abbrev pub start-at-grid-requires : tie.Else1 → tie.Start
 start-at-grid-requires c = c .before .before .before .before
-
-abbrev pub start-at-returns : tie.Then1 → tie.Start
-start-at-returns c = c .before .before .before .before
 
 abbrev pub start-at-returns-2 : tie.After-slice-known2 → tie.Start
 start-at-returns-2 c = c .before .before .before .before .before .before .before .before .before .before .before .before .before

@@ -11,59 +11,39 @@ start-at-wire-compressed-requires-9 c = c .before .before .before .before .befor
     .before .before .before .before .before .before .before .before .before .before .before .before .before .before .before .before .before .before
     .before .before .before
 
-abbrev pub wire-compressed-at-returns : tie.After-slice-known10 → tie.After-wire-compressed
-wire-compressed-at-returns c = c .before .before .before .before .before .before .before .before .before .before .before .before .before .before
+abbrev pub start-at-wire-compressed8 : tie.After-wire-compressed8 → tie.Start
+start-at-wire-compressed8 c = c .before .before .before .before .before .before .before .before .before .before .before .before .before .before
+    .before .before .before .before .before .before .before .before .before .before .before .before .before .before .before .before .before
+
+abbrev pub start-at-wire-compressed9 : tie.After-wire-compressed9 → tie.Start
+start-at-wire-compressed9 c = c .before .before .before .before .before .before .before .before .before .before .before .before .before .before
     .before .before .before .before .before .before .before .before .before .before .before .before .before .before .before .before .before .before
-    .before .before
-
-abbrev pub wire-compressed-at-wire-compressed-requires-9 : tie.After-wire-compressed-arg9 → tie.After-wire-compressed
-wire-compressed-at-wire-compressed-requires-9 c = c .before .before .before .before .before .before .before .before .before .before .before .before
-    .before .before .before .before .before .before .before .before .before .before .before .before .before .before .before .before .before .before
-    .before
-
-abbrev pub wire-compressed2-at-returns : tie.After-slice-known10 → tie.After-wire-compressed2
-wire-compressed2-at-returns c = c .before .before .before .before .before .before .before .before .before .before .before .before .before .before
-    .before .before .before .before .before .before .before .before .before .before .before .before .before .before .before .before
-
-abbrev pub wire-compressed2-at-wire-compressed-requires-9 : tie.After-wire-compressed-arg9 → tie.After-wire-compressed2
-wire-compressed2-at-wire-compressed-requires-9 c = c .before .before .before .before .before .before .before .before .before .before .before .before
-    .before .before .before .before .before .before .before .before .before .before .before .before .before .before .before
-
-abbrev pub wire-compressed3-at-returns : tie.After-slice-known10 → tie.After-wire-compressed3
-wire-compressed3-at-returns c = c .before .before .before .before .before .before .before .before .before .before .before .before .before .before
-    .before .before .before .before .before .before .before .before .before .before .before .before
-
-abbrev pub wire-compressed3-at-wire-compressed-requires-9 : tie.After-wire-compressed-arg9 → tie.After-wire-compressed3
-wire-compressed3-at-wire-compressed-requires-9 c = c .before .before .before .before .before .before .before .before .before .before .before .before
-    .before .before .before .before .before .before .before .before .before .before .before
-
-abbrev pub wire-compressed4-at-returns : tie.After-slice-known10 → tie.After-wire-compressed4
-wire-compressed4-at-returns c = c .before .before .before .before .before .before .before .before .before .before .before .before .before .before
-    .before .before .before .before .before .before .before .before
-
-abbrev pub wire-compressed4-at-wire-compressed-requires-9 : tie.After-wire-compressed-arg9 → tie.After-wire-compressed4
-wire-compressed4-at-wire-compressed-requires-9 c = c .before .before .before .before .before .before .before .before .before .before .before .before
-    .before .before .before .before .before .before .before
-
-abbrev pub wire-compressed5-at-returns : tie.After-slice-known10 → tie.After-wire-compressed5
-wire-compressed5-at-returns c = c .before .before .before .before .before .before .before .before .before .before .before .before .before .before
-    .before .before .before .before
-
-abbrev pub wire-compressed5-at-wire-compressed-requires-9 : tie.After-wire-compressed-arg9 → tie.After-wire-compressed5
-wire-compressed5-at-wire-compressed-requires-9 c = c .before .before .before .before .before .before .before .before .before .before .before .before
     .before .before .before
 
-abbrev pub wire-compressed6-at-returns : tie.After-slice-known10 → tie.After-wire-compressed6
-wire-compressed6-at-returns c = c .before .before .before .before .before .before .before .before .before .before .before .before .before .before
+abbrev pub wire-compressed-at-wire-compressed8 : tie.After-wire-compressed8 → tie.After-wire-compressed
+wire-compressed-at-wire-compressed8 c = c .before .before .before .before .before .before .before .before .before .before .before .before .before
+    .before .before .before .before .before .before .before .before .before .before .before .before .before .before .before
 
-abbrev pub wire-compressed6-at-wire-compressed-requires-9 : tie.After-wire-compressed-arg9 → tie.After-wire-compressed6
-wire-compressed6-at-wire-compressed-requires-9 c = c .before .before .before .before .before .before .before .before .before .before .before
+abbrev pub wire-compressed2-at-wire-compressed8 : tie.After-wire-compressed8 → tie.After-wire-compressed2
+wire-compressed2-at-wire-compressed8 c = c .before .before .before .before .before .before .before .before .before .before .before .before .before
+    .before .before .before .before .before .before .before .before .before .before .before
 
-abbrev pub wire-compressed7-at-returns : tie.After-slice-known10 → tie.After-wire-compressed7
-wire-compressed7-at-returns c = c .before .before .before .before .before .before .before .before .before .before
+abbrev pub wire-compressed3-at-wire-compressed8 : tie.After-wire-compressed8 → tie.After-wire-compressed3
+wire-compressed3-at-wire-compressed8 c = c .before .before .before .before .before .before .before .before .before .before .before .before .before
+    .before .before .before .before .before .before .before
 
-abbrev pub wire-compressed7-at-wire-compressed-requires-9 : tie.After-wire-compressed-arg9 → tie.After-wire-compressed7
-wire-compressed7-at-wire-compressed-requires-9 c = c .before .before .before .before .before .before .before
+abbrev pub wire-compressed4-at-wire-compressed8 : tie.After-wire-compressed8 → tie.After-wire-compressed4
+wire-compressed4-at-wire-compressed8 c = c .before .before .before .before .before .before .before .before .before .before .before .before .before
+    .before .before .before
 
-abbrev pub wire-compressed8-at-returns : tie.After-slice-known10 → tie.After-wire-compressed8
-wire-compressed8-at-returns c = c .before .before .before .before .before .before
+abbrev pub wire-compressed5-at-wire-compressed8 : tie.After-wire-compressed8 → tie.After-wire-compressed5
+wire-compressed5-at-wire-compressed8 c = c .before .before .before .before .before .before .before .before .before .before .before .before
+
+abbrev pub wire-compressed6-at-wire-compressed8 : tie.After-wire-compressed8 → tie.After-wire-compressed6
+wire-compressed6-at-wire-compressed8 c = c .before .before .before .before .before .before .before .before
+
+abbrev pub wire-compressed7-at-wire-compressed8 : tie.After-wire-compressed8 → tie.After-wire-compressed7
+wire-compressed7-at-wire-compressed8 c = c .before .before .before .before
+
+abbrev pub wire-compressed8-at-wire-compressed9 : tie.After-wire-compressed9 → tie.After-wire-compressed8
+wire-compressed8-at-wire-compressed9 c = c .before .before .before .before

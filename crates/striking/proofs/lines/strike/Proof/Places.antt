@@ -3,3 +3,6 @@ use Rattle.striking.proofs.lines.strike.Tie as tie
 
 abbrev pub columns-at-returns : tie.After-slice-known4 → tie.After-columns
 columns-at-returns c = c .before .before .before .before .before .before
+
+abbrev pub start-at-returns : tie.After-slice-known4 → tie.Start
+start-at-returns c = c .before .before .before .before .before .before .before .before .before .before .before

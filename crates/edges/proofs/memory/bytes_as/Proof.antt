@@ -1,0 +1,29 @@
+-- `memory::bytes_as` is safe and ends: what is left to compare gets shorter.
+use Prim.Native.Nat.{_-_, _≤_}
+use lib.ListN.{length}
+use borrow.Author.Needs.{needs}
+use Rattle.edges.proofs.memory.bytes_as.Statement.{statement}
+use Rattle.edges.proofs.memory.bytes_as.Tie as tie
+
+abbrev Inv-loop : tie.InvT-loop
+Inv-loop bytes first spare mark₀ i₀ mark i = i ≤ length bytes
+
+abbrev μ-loop : tie.MeasureT-loop
+μ-loop bytes first spare mark₀ i₀ mark i = length bytes - i
+
+pub bytes-as-spec : {M : Type 1} → statement M
+bytes-as-spec =
+    tie.close
+    (tie.spec
+    Inv-loop
+    μ-loop
+    (λ c. search needs)
+    (λ c. search needs)
+    (λ c. search needs)
+    (λ c. search needs)
+    (λ c κs. search needs)
+    (λ c κs. search needs)
+    (λ c. search needs)
+    (λ c. search needs)
+    (λ c. search needs)
+    (λ c. search needs))
