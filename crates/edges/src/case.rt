@@ -1,6 +1,11 @@
 // A case of the table: what is done, to which state, in which memory.
-use crate::words::FEED;
-use printer::Printer;
+use crate::table::CLOSE;
+use crate::table::COMPARE;
+use crate::table::FEED;
+use crate::table::LIMIT;
+use crate::table::OPEN;
+use crate::table::SOUND;
+use crate::table::UNSOUND;
 
 // How much of each part of the memory is lent.
 pub struct Sizes {
@@ -11,12 +16,12 @@ pub struct Sizes {
     pub font: usize,
 }
 
-// `kind`: the line's first word. `other`: the state before the word `with`. `sends`, `count`: whether there is a piece, and of how many bytes. `view`: the
-// word for what is told of the memory, from `first` to `last`. `known`: whether the line is understood so far.
+// `kind`: the line's first word. `state`, `other`: a state as the twenty words of `words`, and the one before the word `with`. `sends`, `count`: whether there
+// is a piece, and of how many bytes. `view`: the word for what is told of the memory, from `first` to `last`. `known`: whether the line is understood so far.
 pub struct Case {
     pub kind: u64,
-    pub printer: Printer,
-    pub other: Printer,
+    pub state: [u64; 20],
+    pub other: [u64; 20],
     pub lent: Sizes,
     pub sends: bool,
     pub count: usize,
@@ -32,9 +37,62 @@ pub fn unknown(mut c: Case) -> Case {
     c
 }
 
-// The case that feeds a state that came back.
-pub fn fed_next(mut c: Case, back: Printer) -> Case {
+// Whether a word says what a case does.
+fn is_kind(word: u64) -> bool {
+    match word {
+        OPEN | COMPARE | UNSOUND | SOUND | FEED | LIMIT | CLOSE => true,
+        _ => false,
+    }
+}
+
+// The case of a kind before its settings: the state of a job just opened, a fresh line of a form of 1 line at 8 an inch, and the exact lengths.
+pub fn new_case(kind: u64) -> Case {
+    let mut state = [0u64; 20];
+    state[0] = 1;
+    state[1] = 8;
+    state[5] = 1;
+    let lent = Sizes {
+        page: 7425,
+        line: 2200,
+        staging: 2048,
+        store: 2048,
+        font: 2048,
+    };
+    Case {
+        kind,
+        state,
+        other: state,
+        lent,
+        sends: false,
+        count: 0,
+        view: 0,
+        first: 0,
+        last: 0,
+        known: is_kind(kind),
+    }
+}
+
+// The case that feeds, in the same memory.
+pub fn as_feeding(mut c: Case) -> Case {
     c.kind = FEED;
-    c.printer = back;
     c
+}
+
+// The case that feeds a state that came back, in memory that fits.
+pub fn fed_next(state: [u64; 20]) -> Case {
+    let mut c = new_case(FEED);
+    c.state = state;
+    c
+}
+
+// Whether two states are the same in every word.
+pub fn same_state(one: [u64; 20], other: [u64; 20]) -> bool {
+    let mut i = 0;
+    while i < 20 {
+        if one[i] != other[i] {
+            return false;
+        }
+        i += 1;
+    }
+    true
 }

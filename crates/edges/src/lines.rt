@@ -1,27 +1,21 @@
 // The words of the lines. Each function answers whether standard output took its words.
+use crate::memory::Told;
 use printer::Closing;
-use protocol::Answer;
-use protocol::Fed;
-use protocol::numbers::answer_number;
-use protocol::numbers::note_number;
 use report::say;
 use report::say_number;
 
 // Writes words, what a feeding answered and how many bytes it took, and of a note its number and place.
-pub fn say_feeding(words: &[u8], f: Fed) -> bool {
-    let answer = f.answer;
-    if !say_number(words, answer_number(answer)) {
+pub fn say_feeding(words: &[u8], t: Told) -> bool {
+    if !say_number(words, t.answer) {
         return false;
     }
-    if !say_number(b" ", f.taken as u64) {
+    if !say_number(b" ", t.taken as u64) {
         return false;
     }
-    match answer {
-        Answer::Noted(fault, place) => {
-            say_number(b" note ", note_number(fault)) && say_number(b" at ", place as u64)
-        }
-        _ => true,
+    if t.answer != 2 {
+        return true;
     }
+    say_number(b" note ", t.note) && say_number(b" at ", t.place)
 }
 
 // Writes whether the memory or the state is the same as before.

@@ -10,10 +10,9 @@ mod case;
 mod lines;
 mod memory;
 mod perform;
-mod same;
 mod setting;
+mod table;
 mod walk;
-mod words;
 
 // Performs a table, or says that it fills its store, and may be longer.
 fn perform_table(table: &[u8]) -> bool {

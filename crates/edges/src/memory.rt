@@ -2,18 +2,22 @@
 // call: each number is three times the one before it, so that none is 0 where the first is 1, and all are where it is 0.
 ghost use Prim.Native.Nat.{_≤_};
 use crate::case::Case;
-use crate::case::Sizes;
-use crate::case::fed_next;
-use crate::words::CLOSE;
-use crate::words::COMPARE;
-use crate::words::FEED;
-use crate::words::LIMIT;
-use crate::words::OPEN;
-use crate::words::SOUND;
-use crate::words::UNSOUND;
+use crate::case::as_feeding;
+use crate::table::OPEN;
+use answers::new_printer;
+use job::calls::close;
 use job::calls::offer;
 use job::calls::open;
-use protocol::Fed;
+use printer::Closing;
+use printer::Printer;
+use protocol::Answer;
+use protocol::numbers::answer_number;
+use protocol::numbers::noted_number;
+use protocol::numbers::noted_place;
+use sheet::Form;
+use words::is_state;
+use words::put;
+use words::state_of;
 
 // The first number of memory that is marked, and of memory that is blank.
 pub const MARKED: u8 = 1;
@@ -93,9 +97,38 @@ fn is_as(first: u8, spare: usize, page: &[u8], line: &[u16], staging: &[u8], sto
         && bytes_as(store, first, spare)
 }
 
-// Opens the case's form, or offers the rest of a piece to its state.
+// What a call gave back: the number of its answer, the bytes taken, and a note's number and place.
+pub struct Told {
+    pub answer: u64,
+    pub taken: usize,
+    pub note: u64,
+    pub place: u64,
+}
+
+fn tell(answer: Answer, taken: usize) -> Told {
+    Told {
+        answer: answer_number(answer),
+        taken,
+        note: noted_number(answer),
+        place: noted_place(answer),
+    }
+}
+
+// The state that words hold; of words that are no state, the shut one.
+fn held(state: &[u64; 20]) -> Printer {
+    if is_state(state) {
+        return state_of(state);
+    }
+    new_printer(Form {
+        lines: 0,
+        spacing: 0,
+    })
+}
+
+// Opens the state's form, or offers the rest of a piece to the state, which is left as the call gives it back; the count is of the rest's bytes alone.
 fn call(
-    c: Case,
+    kind: u64,
+    state: &mut [u64; 20],
     piece: &[u8],
     taken: usize,
     page: &mut [u8],
@@ -103,25 +136,27 @@ fn call(
     staging: &mut [u8],
     store: &mut [u8],
     font: &[u8],
-) -> Fed {
-    let p = c.printer;
-    if c.kind != OPEN {
-        return offer(p, piece, taken, page, line, staging, store, font);
+) -> Told {
+    let p = held(state);
+    if kind == OPEN {
+        let form = p.form;
+        let o = open(form.lines, form.spacing, page, line, staging, store, font);
+        let printer = o.printer;
+        let answer = o.answer;
+        put(state, printer);
+        return tell(answer, 0);
     }
-    let form = p.form;
-    let o = open(form.lines, form.spacing, page, line, staging, store, font);
-    let printer = o.printer;
-    let answer = o.answer;
-    Fed {
-        printer,
-        answer,
-        taken: 0,
-    }
+    let f = offer(p, piece, taken, page, line, staging, store, font);
+    let printer = f.printer;
+    let answer = f.answer;
+    put(state, printer);
+    tell(answer, std::num::wrapping_sub_usize(f.taken, taken))
 }
 
 // The same in the lengths that the case lends.
 fn call_lent(
     c: Case,
+    state: &mut [u64; 20],
     piece: &[u8],
     taken: usize,
     page: &mut [u8],
@@ -129,7 +164,7 @@ fn call_lent(
     staging: &mut [u8],
     store: &mut [u8],
     font: &[u8],
-) -> Fed {
+) -> Told {
     let lent = c.lent;
     let of_page = at_most(lent.page, page.len());
     let of_line = at_most(lent.line, line.len());
@@ -137,7 +172,8 @@ fn call_lent(
     let of_store = at_most(lent.store, store.len());
     let of_font = at_most(lent.font, font.len());
     call(
-        c,
+        c.kind,
+        state,
         piece,
         taken,
         &mut page[..of_page],
@@ -146,17 +182,6 @@ fn call_lent(
         &mut store[..of_store],
         &font[..of_font],
     )
-}
-
-// What came of a case: what its call gave back, and the offer of the piece's rest after it; whether all memory is as it was marked, and whether its exact
-// lengths are blank; and what is in staging and in the line store at a place.
-pub struct Tried {
-    pub fed: Fed,
-    pub rest: Fed,
-    pub same: bool,
-    pub blank: bool,
-    pub staged: u64,
-    pub drawn: u64,
 }
 
 // A byte as a wider number.
@@ -171,8 +196,46 @@ fn wide_number(number: u16) -> u64 {
     number as u64
 }
 
+// What is seen of the memory: whether all of it is as it was marked, whether its exact lengths are blank, and what is in staging and in the line store at a
+// place.
+pub struct Seen {
+    pub same: bool,
+    pub blank: bool,
+    pub staged: u64,
+    pub drawn: u64,
+}
+
+fn look(first: u8, place: usize, page: &[u8], line: &[u16], staging: &[u8], store: &[u8]) -> Seen {
+    let staged = if place < staging.len() {
+        wide(staging[place])
+    } else {
+        0
+    };
+    let drawn = if place < line.len() {
+        wide_number(line[place])
+    } else {
+        0
+    };
+    Seen {
+        same: is_as(first, 0, page, line, staging, store),
+        blank: is_as(BLANK, 1, page, line, staging, store),
+        staged,
+        drawn,
+    }
+}
+
+// What came of a case: what its call gave back, with the state, the offer of the piece's rest after it, and what is then seen of the memory.
+pub struct Tried {
+    pub fed: Told,
+    pub state: [u64; 20],
+    pub rest: Told,
+    pub after: [u64; 20],
+    pub seen: Seen,
+}
+
 // Performs a case's call in memory that is marked from a first number on, and offers the rest of the piece.
 pub fn try_case(c: Case, piece: &[u8], first: u8, place: usize) -> Tried {
+    let mut state = c.state;
     let mut page = [0u8; 7426];
     let mut line = [0u16; 2201];
     let mut staging = [0u8; 2049];
@@ -181,6 +244,7 @@ pub fn try_case(c: Case, piece: &[u8], first: u8, place: usize) -> Tried {
     mark(first, &mut page, &mut line, &mut staging, &mut store);
     let fed = call_lent(
         c,
+        &mut state,
         piece,
         0,
         &mut page,
@@ -189,8 +253,10 @@ pub fn try_case(c: Case, piece: &[u8], first: u8, place: usize) -> Tried {
         &mut store,
         &font,
     );
-    let mut rest = call_lent(
-        fed_next(c, fed.printer),
+    let back = state;
+    let rest = call_lent(
+        as_feeding(c),
+        &mut state,
         piece,
         fed.taken,
         &mut page,
@@ -199,53 +265,16 @@ pub fn try_case(c: Case, piece: &[u8], first: u8, place: usize) -> Tried {
         &mut store,
         &font,
     );
-    let taken = std::num::wrapping_sub_usize(rest.taken, fed.taken);
-    rest.taken = taken;
-    let at = at_most(place, 2048);
     Tried {
         fed,
+        state: back,
         rest,
-        same: is_as(first, 0, &page, &line, &staging, &store),
-        blank: is_as(BLANK, 1, &page, &line, &staging, &store),
-        staged: wide(staging[at]),
-        drawn: wide_number(line[at]),
+        after: state,
+        seen: look(first, place, &page, &line, &staging, &store),
     }
 }
 
-// Whether a word says what a case does.
-fn is_kind(word: u64) -> bool {
-    match word {
-        OPEN | COMPARE | UNSOUND | SOUND | FEED | LIMIT | CLOSE => true,
-        _ => false,
-    }
-}
-
-// The case of a kind before its settings: the state of a job just opened, of 1 line at 8 an inch, and the exact lengths.
-pub fn new_case(kind: u64) -> Case {
-    let mut page = [0u8; 7425];
-    let mut line = [0u16; 2200];
-    let mut staging = [0u8; 2048];
-    let mut store = [0u8; 2048];
-    let font = [0u8; 2048];
-    let o = open(1, 8, &mut page, &mut line, &mut staging, &mut store, &font);
-    let printer = o.printer;
-    let lent = Sizes {
-        page: 7425,
-        line: 2200,
-        staging: 2048,
-        store: 2048,
-        font: 2048,
-    };
-    Case {
-        kind,
-        printer,
-        other: printer,
-        lent,
-        sends: false,
-        count: 0,
-        view: 0,
-        first: 0,
-        last: 0,
-        known: is_kind(kind),
-    }
+// What closing a state answers.
+pub fn close_state(state: [u64; 20]) -> Closing {
+    close(held(&state))
 }

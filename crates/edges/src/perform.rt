@@ -1,25 +1,22 @@
 // What each kind of case does, and the rest of its line after the name. Each function answers whether standard output took its words.
 use crate::case::Case;
 use crate::case::fed_next;
+use crate::case::same_state;
 use crate::lines::say_closing;
 use crate::lines::say_feeding;
 use crate::lines::say_same;
 use crate::memory::BLANK;
 use crate::memory::MARKED;
 use crate::memory::at_most;
-use crate::memory::new_case;
+use crate::memory::close_state;
 use crate::memory::try_case;
-use crate::same::same_state;
-use crate::words::COMPARE;
-use crate::words::FEED;
-use crate::words::LIMIT;
-use crate::words::OPEN;
-use crate::words::SOUND;
-use crate::words::STAGED;
-use crate::words::UNSOUND;
-use job::calls::close;
-use printer::Printer;
-use protocol::numbers::answer_number;
+use crate::table::COMPARE;
+use crate::table::FEED;
+use crate::table::LIMIT;
+use crate::table::OPEN;
+use crate::table::SOUND;
+use crate::table::STAGED;
+use crate::table::UNSOUND;
 use report::say;
 use report::say_number;
 
@@ -27,86 +24,93 @@ use report::say_number;
 fn open_case(c: Case, piece: &[u8]) -> bool {
     let t = try_case(c, piece, MARKED, 0);
     let fed = t.fed;
-    let answer = fed.answer;
-    if !say_number(b": ", answer_number(answer)) {
+    let seen = t.seen;
+    let back = t.state;
+    let closing = close_state(back);
+    if !say_number(b": ", fed.answer) {
         return false;
     }
-    if t.blank && !t.same {
-        return say_closing(b", memory blank, close ", close(fed.printer));
+    if seen.blank && !seen.same {
+        return say_closing(b", memory blank, close ", closing);
     }
-    say_same(b", memory", t.same)
+    say_same(b", memory", seen.same)
         && say_feeding(b", fed ", t.rest)
-        && say_closing(b", close ", close(fed.printer))
+        && say_closing(b", close ", closing)
 }
 
 // Compares two states, or marked memory before and after a piece.
 fn compare_case(c: Case, piece: &[u8]) -> bool {
     if c.sends {
         let t = try_case(c, piece, MARKED, 0);
-        say_same(b": memory", t.same) && say(b"\n")
+        let seen = t.seen;
+        say_same(b": memory", seen.same) && say(b"\n")
     } else {
-        say_same(b": state", same_state(c.other, c.printer)) && say(b"\n")
+        let one = c.other;
+        let other = c.state;
+        say_same(b": state", same_state(one, other)) && say(b"\n")
     }
 }
 
 // Feeds the piece in marked memory, and then a character, in memory that fits, to the state that came back.
 fn refused_case(c: Case, piece: &[u8]) -> bool {
     let t = try_case(c, piece, MARKED, 0);
-    let fed = t.fed;
-    let back = fed.printer;
-    let then = try_case(fed_next(new_case(FEED), back), b"A", BLANK, 0);
-    say_feeding(b": ", fed)
-        && say_same(b", memory", t.same)
-        && say_same(b", state", same_state(c.printer, back))
+    let seen = t.seen;
+    let state = c.state;
+    let back = t.state;
+    let then = try_case(fed_next(back), b"A", BLANK, 0);
+    say_feeding(b": ", t.fed)
+        && say_same(b", memory", seen.same)
+        && say_same(b", state", same_state(state, back))
         && say_feeding(b", then ", then.fed)
-        && say_closing(b", close ", close(back))
+        && say_closing(b", close ", close_state(back))
 }
 
 // Feeds the piece in blank memory, and closes the state that was handed in.
 fn sound_case(c: Case, piece: &[u8]) -> bool {
     let t = try_case(c, piece, BLANK, 0);
-    say_feeding(b": ", t.fed) && say_closing(b", close ", close(c.printer))
+    let state = c.state;
+    say_feeding(b": ", t.fed) && say_closing(b", close ", close_state(state))
 }
 
 // Feeds the piece in blank memory, and closes the state that came back. Where there is no piece, closes the state.
 fn close_case(c: Case, piece: &[u8]) -> bool {
+    let state = c.state;
     if !c.sends {
-        return say_closing(b": ", close(c.printer));
+        return say_closing(b": ", close_state(state));
     }
     let t = try_case(c, piece, BLANK, 0);
-    let fed = t.fed;
-    say_feeding(b": ", fed) && say_closing(b", ", close(fed.printer))
+    let back = t.state;
+    say_feeding(b": ", t.fed) && say_closing(b", ", close_state(back))
 }
 
 // Writes how many bytes the job has, where the head stands and how the job closes.
-fn say_left(p: Printer) -> bool {
-    let row = p.head.row;
-    say_number(b", job ", p.job as u64)
-        && say_number(b", row ", row.0 as u64)
-        && say_number(b", column ", p.head.column as u64)
-        && say_closing(b", close ", close(p))
+fn say_left(state: [u64; 20]) -> bool {
+    say_number(b", job ", state[2])
+        && say_number(b", row ", state[3])
+        && say_number(b", column ", state[4])
+        && say_closing(b", close ", close_state(state))
 }
 
 // Feeds the piece in blank memory, offers its rest, and feeds nothing after that.
 fn limit_case(c: Case, piece: &[u8]) -> bool {
     let t = try_case(c, piece, BLANK, 0);
-    let fed = t.fed;
-    let rest = t.rest;
-    let last = try_case(fed_next(new_case(FEED), rest.printer), b"", BLANK, 0);
-    let nothing = last.fed;
-    say_feeding(b": ", fed)
-        && say_feeding(b", rest ", rest)
-        && say_feeding(b", nothing ", nothing)
-        && say_left(nothing.printer)
+    let after = t.after;
+    let last = try_case(fed_next(after), b"", BLANK, 0);
+    let left = last.state;
+    say_feeding(b": ", t.fed)
+        && say_feeding(b", rest ", t.rest)
+        && say_feeding(b", nothing ", last.fed)
+        && say_left(left)
 }
 
 // Writes what is in staging or in the line store at a place, after the piece is fed in blank memory.
 fn say_place(c: Case, piece: &[u8], place: usize) -> bool {
     let t = try_case(c, piece, BLANK, place);
+    let seen = t.seen;
     if c.view == STAGED {
-        say_number(b" ", t.staged)
+        say_number(b" ", seen.staged)
     } else {
-        say_number(b" ", t.drawn)
+        say_number(b" ", seen.drawn)
     }
 }
 

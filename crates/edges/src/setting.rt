@@ -1,35 +1,28 @@
 // The settings of a case: each is a word and a number, and changes one part of it.
 use crate::case::Case;
 use crate::case::unknown;
-use crate::memory::at_most;
-use crate::words::COLUMN;
-use crate::words::COMPRESS;
-use crate::words::DRAWN;
-use crate::words::ESCAPE;
-use crate::words::FONT;
-use crate::words::FRESH;
-use crate::words::JOB;
-use crate::words::LAST;
-use crate::words::LINE;
-use crate::words::LINES;
-use crate::words::LIST;
-use crate::words::PAGE;
-use crate::words::PAYLOAD;
-use crate::words::PLOTTED;
-use crate::words::PLOTTING;
-use crate::words::ROW;
-use crate::words::SPACING;
-use crate::words::STAGED;
-use crate::words::STAGING;
-use crate::words::STORE;
-use crate::words::TAB;
-use crate::words::TAKEN;
-use printer::Load;
-use printer::Pending;
-use printer::Printer;
-use sheet::Pitch;
-use state::parts::set_pitch;
-use state::parts::with_pending;
+use crate::table::COLUMN;
+use crate::table::COMPRESS;
+use crate::table::DRAWN;
+use crate::table::ESCAPE;
+use crate::table::FONT;
+use crate::table::FRESH;
+use crate::table::JOB;
+use crate::table::LAST;
+use crate::table::LINE;
+use crate::table::LINES;
+use crate::table::LIST;
+use crate::table::PAGE;
+use crate::table::PAYLOAD;
+use crate::table::PLOTTED;
+use crate::table::PLOTTING;
+use crate::table::ROW;
+use crate::table::SPACING;
+use crate::table::STAGED;
+use crate::table::STAGING;
+use crate::table::STORE;
+use crate::table::TAB;
+use crate::table::TAKEN;
 
 // The largest number that a word can be set to: of a part of the memory its whole length, of what is 0 or 1 the 1.
 fn largest(word: u64) -> usize {
@@ -76,66 +69,64 @@ fn set_memory(mut c: Case, word: u64, number: usize) -> Case {
     c
 }
 
-// Sets how much of a payload came.
-fn set_taken(mut c: Case, taken: usize) -> Case {
-    let p = c.printer;
-    let pending = p.pending;
-    match pending {
-        Pending::Payload(place, old) => {
-            let mut load = old;
-            let count = at_most(taken, 65535) as u16;
-            load.taken = count;
-            let q = with_pending(p, Pending::Payload(place, load));
-            c.printer = q;
-            c
-        }
-        _ => unknown(c),
+// The place of a number or a truth among the twenty words of a state; 20 for what has none.
+fn place_of(word: u64) -> usize {
+    match word {
+        LINES => 0,
+        SPACING => 1,
+        JOB => 2,
+        ROW => 3,
+        COLUMN => 4,
+        FRESH => 5,
+        PLOTTED => 6,
+        PLOTTING => 7,
+        COMPRESS => 8,
+        _ => 20,
     }
 }
 
-// The state with a command begun at a place. A payload is one of 16 bytes for the download store's start.
-fn with_command(p: Printer, word: u64, place: u32) -> Printer {
-    match word {
-        ESCAPE => with_pending(p, Pending::Escape(place)),
-        LIST => with_pending(p, Pending::Tabs(place)),
-        _ => {
-            let load = Load {
-                count: 16,
-                address: 2048,
-                taken: 0,
-                sum: 0,
-            };
-            with_pending(p, Pending::Payload(place, load))
-        }
+// Sets a command that has begun at a place. A payload is one of 16 bytes for the download store's start.
+fn set_command(mut state: [u64; 20], kind: u64, place: u64) -> [u64; 20] {
+    state[14] = kind;
+    state[15] = place;
+    if kind == 10 {
+        state[17] = 16;
+        state[18] = 2048;
     }
+    state
+}
+
+// Sets a tab on a line.
+fn set_tab(mut state: [u64; 20], line: usize) -> [u64; 20] {
+    state[12] = tab_bit(line);
+    state[13] = tab_bit(std::num::wrapping_sub_usize(line, 64));
+    state
 }
 
 // Sets a part of the state.
-fn set_state(mut p: Printer, word: u64, number: usize) -> Printer {
-    let on = number == 1;
-    let small = at_most(number, 4294967295) as u32;
-    match word {
-        LINES => p.form.lines = number,
-        SPACING => p.form.spacing = number,
-        ROW => p.head.row.0 = number,
-        COLUMN => p.head.column = number,
-        FRESH => p.head.fresh = on,
-        PLOTTED => p.head.plotted = on,
-        PLOTTING => p.head.plotting = on,
-        COMPRESS => {
-            let pitch = if on { Pitch::Compressed } else { Pitch::Normal };
-            return set_pitch(p, pitch);
-        }
-        TAB => {
-            let low = tab_bit(number);
-            let high = tab_bit(std::num::wrapping_sub_usize(number, 64));
-            p.tabs.low = low;
-            p.tabs.high = high;
-        }
-        JOB => p.job = small,
-        _ => return with_command(p, word, small),
+fn set_state(mut state: [u64; 20], word: u64, number: usize) -> [u64; 20] {
+    let place = place_of(word);
+    if place < 20 {
+        state[place] = number as u64;
+        return state;
     }
-    p
+    match word {
+        TAB => set_tab(state, number),
+        ESCAPE => set_command(state, 1, number as u64),
+        LIST => set_command(state, 2, number as u64),
+        _ => set_command(state, 10, number as u64),
+    }
+}
+
+// Sets how much of a payload came.
+fn set_taken(mut c: Case, taken: usize) -> Case {
+    let mut state = c.state;
+    if state[14] != 10 {
+        return unknown(c);
+    }
+    state[19] = taken as u64;
+    c.state = state;
+    c
 }
 
 // Sets what a word names.
@@ -157,8 +148,9 @@ pub fn set(mut c: Case, word: u64, number: usize) -> Case {
         | ESCAPE
         | LIST
         | PAYLOAD => {
-            let p = set_state(c.printer, word, number);
-            c.printer = p;
+            let old = c.state;
+            let state = set_state(old, word, number);
+            c.state = state;
             c
         }
         TAKEN => set_taken(c, number),

@@ -2,15 +2,15 @@
 ghost use Prim.Native.Nat.{_≤_};
 ghost use lib.ListN.{length};
 use crate::case::Case;
+use crate::case::new_case;
 use crate::case::unknown;
 use crate::lines::say_name;
 use crate::lines::say_unknown;
-use crate::memory::new_case;
 use crate::memory::wide;
 use crate::perform::perform;
 use crate::setting::set;
-use crate::words::SEND;
-use crate::words::WITH;
+use crate::table::SEND;
+use crate::table::WITH;
 
 // A number of the table, or letters that are none.
 enum Number {
@@ -107,8 +107,8 @@ fn take_word(mut c: Case, word: u64, piece: &mut [u8; 64]) -> Case {
     }
     match word {
         WITH => {
-            let p = c.printer;
-            c.other = p;
+            let state = c.state;
+            c.other = state;
         }
         SEND => c.sends = true,
         _ => c.known = false,

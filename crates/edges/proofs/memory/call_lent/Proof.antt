@@ -8,24 +8,7 @@ use Rattle.edges.proofs.memory.call_lent.Tie as tie
 pub call-lent-spec : {M : Type 1} → statement M
 call-lent-spec =
     tie.close
-    (tie.spec
-    (λ c κs. search needs)
-    (λ c κs. search needs)
-    (λ c κs. search needs)
-    (λ c κs. search needs)
-    (λ c κs. search needs)
-    (λ c. search needs)
-    (λ c. simp length-take (omega arith))
-    (λ c. search needs)
-    (λ c. simp length-take (omega arith))
-    (λ c. search needs)
-    (λ c. simp length-take (omega arith))
-    (λ c. search needs)
-    (λ c. simp length-take (omega arith))
-    (λ c. simp length-take (omega arith))
-    (λ c κs. search needs)
-    (λ c. search needs)
-    (λ c. search needs)
-    (λ c. search needs)
-    (λ c. search needs)
-    (λ c. search needs))
+    (tie.spec (λ c κs. search needs) (λ c κs. search needs) (λ c κs. search needs) (λ c κs. search needs) (λ c κs. search needs) (λ c. search needs)
+    (λ c. simp length-take (omega arith)) (λ c. search needs) (λ c. simp length-take (omega arith)) (λ c. search needs)
+    (λ c. simp length-take (omega arith)) (λ c. search needs) (λ c. simp length-take (omega arith)) (λ c. simp length-take (omega arith))
+    (λ c κs. search needs) (λ c. search needs) (λ c. search needs) (λ c. search needs) (λ c. search needs) (λ c. search needs))
