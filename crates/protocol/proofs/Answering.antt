@@ -115,7 +115,8 @@ module _ (e : Edition) (font piece : List ℕ) (m : Machine) where
   counts-taken f (refused r t q) = (omega (arith, ap (λ (x : Machine). x .printer .job) q), omega arith)
   counts-taken f (taken ready q) = rw q (taking e font piece m .counted, taking e font piece m .within)
 
-  pub feeding-counts : (feeding e font piece m .machine .printer .job ≡ m .printer .job + feeding e font piece m .taken) × (feeding e font piece m .taken ≤ length piece)
+  pub feeding-counts :
+      (feeding e font piece m .machine .printer .job ≡ m .printer .job + feeding e font piece m .taken) × (feeding e font piece m .taken ≤ length piece)
   feeding-counts = counts-taken _ (fate e font piece m)
 
   -- answer 0 takes all of the piece
