@@ -43,7 +43,8 @@ pub extern "C" fn clocktoad_open(
     font: &[u8],
 ) -> u64
     ensures { λ r. ⌜ called r (now (state .exit)) (now (page .exit)) (now (line .exit)) (now (staging .exit)) (now (store .exit)) []
-        ≡ open-call lines spacing (now (font .entry)) (now (state .entry)) (now (page .entry)) (now (line .entry)) (now (staging .entry)) (now (store .entry)) ⌝ }
+        ≡ open-call lines spacing (now (font .entry)) (now (state .entry)) (now (page .entry))
+        (now (line .entry)) (now (staging .entry)) (now (store .entry)) ⌝ }
     ensures { λ r. ⌜ ((r ≡ 21 → ⊥) → is-state (now (state .exit)) ≡ true) ⌝ }
 {
     if state.len() != 20 {
@@ -69,7 +70,8 @@ pub extern "C" fn clocktoad_feed(
     report: &mut [u64],
 ) -> u64
     ensures { λ r. ⌜ called r (now (state .exit)) (now (page .exit)) (now (line .exit)) (now (staging .exit)) (now (store .exit)) (now (report .exit))
-        ≡ feed-call (now (font .entry)) (now (piece .entry)) (now (state .entry)) (now (page .entry)) (now (line .entry)) (now (staging .entry)) (now (store .entry)) (now (report .entry)) ⌝ }
+        ≡ feed-call (now (font .entry)) (now (piece .entry)) (now (state .entry)) (now (page .entry)) (now (line .entry))
+        (now (staging .entry)) (now (store .entry)) (now (report .entry)) ⌝ }
     ensures { λ r. ⌜ (r ≤ 3 → is-state (now (state .exit)) ≡ true) ⌝ }
 {
     if state.len() != 20 {

@@ -62,7 +62,8 @@ fn wide(byte: u8) -> usize
 
 // The number that four bytes are, high first.
 fn number_of(bytes: &[u8; 4]) -> usize
-    ensures { λ r. ⌜ r ≡ (getD (now (bytes .entry)) 0 0 * 256 + getD (now (bytes .entry)) 1 0) * 65536 + (getD (now (bytes .entry)) 2 0 * 256 + getD (now (bytes .entry)) 3 0) ⌝ }
+    ensures { λ r. ⌜ r ≡ (getD (now (bytes .entry)) 0 0 * 256 + getD (now (bytes .entry)) 1 0) * 65536
+        + (getD (now (bytes .entry)) 2 0 * 256 + getD (now (bytes .entry)) 3 0) ⌝ }
 {
     let high = wide(bytes[0]) * 256 + wide(bytes[1]);
     let low = wide(bytes[2]) * 256 + wide(bytes[3]);

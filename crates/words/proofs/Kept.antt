@@ -75,7 +75,11 @@ pitch-small Compressed = refl
 
 -- the six words of what is pending are in range
 in-six : (q : Pending) → Ranged q
-    → (at-most 10 (part 0 1 (pending-words q)) && at-most 4294967295 (part 1 1 (pending-words q)) && at-most 255 (part 2 1 (pending-words q)) && at-most 65535 (part 3 3 (pending-words q))) ≡ true
+    → (at-most 10 (part 0 1 (pending-words q))
+    && at-most 4294967295 (part 1 1 (pending-words q))
+    && at-most 255 (part 2 1 (pending-words q))
+    && at-most 65535 (part 3 3 (pending-words q)))
+    ≡ true
 unfolding pending-words at-most
 in-six Nothing h = refl
 in-six (Escape place) h = simp (le-leb _ _ h)

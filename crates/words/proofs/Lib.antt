@@ -2,3 +2,4 @@
 pub mod Ranges
 pub mod Kept
 pub mod Writing
+pub mod Reading

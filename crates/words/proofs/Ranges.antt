@@ -1,10 +1,10 @@
 -- The ranges of a state's words.
 use Prim.Native.Nat.{ℕ, suc, _+_, _-_, _≤_, _<_}
-use mathlib.Core.Bool.{true, _&&_, and-eq-true-iff}
+use mathlib.Core.Bool.{Bool, true, false, _&&_, and-eq-true-iff}
 use mathlib.Core.List.{List}
 use mathlib.Core.Path.{_≡_, ap, sym, _∙_}
 use native.Mathlib.Omega.{arith}
-use borrow.Author.Tests.{leb-true}
+use borrow.Author.Tests.{le-leb, leb-true, lt-leb}
 use lib.Dec.{leb}
 use lib.ListN.{drop, getD, length, take}
 use lib.Seq.{drop-cons}
@@ -15,7 +15,7 @@ part-turn : (m k n : ℕ) (ws : List ℕ) → k < length ws → at-most m (take 
 unfolding at-most
 part-turn m k n ws h = simp (drop-cons ws k 0 h)
 
-pub part-next : (m k n i : ℕ) (ws : List ℕ) → i < n → k + i < length ws
+part-next : (m k n i : ℕ) (ws : List ℕ) → i < n → k + i < length ws
     → at-most m (part (k + i) (n - i) ws) ≡ (leb (getD ws (k + i) 0) m && at-most m (part (k + (i + 1)) (n - (i + 1)) ws))
 part-next m k n i ws l h =
     let e : n - i ≡ suc (n - (i + 1)) = omega arith in
@@ -23,6 +23,14 @@ part-next m k n i ws l h =
     ap (λ (j : ℕ). at-most m (part (k + i) j ws)) e
     ∙ part-turn m (k + i) (n - (i + 1)) ws h
     ∙ ap (λ (j : ℕ). leb (getD ws (k + i) 0) m && at-most m (take (n - (i + 1)) (drop j ws))) f
+
+-- what the words from word k + i on say of the whole: a word out of range makes it false, one in range leaves it to the next
+module _ (m k n i : ℕ) (ws : List ℕ) {whole : Bool} (q : whole ≡ at-most m (part (k + i) (n - i) ws)) (l : i < n) (h : k + i < length ws) where
+  pub part-fails : m < getD ws (k + i) 0 → false ≡ whole
+  part-fails t = sym (q ∙ part-next m k n i ws l h ∙ simp (lt-leb _ _ t))
+
+  pub part-goes-on : getD ws (k + i) 0 ≤ m → whole ≡ at-most m (part (k + (i + 1)) (n - (i + 1)) ws)
+  part-goes-on t = q ∙ part-next m k n i ws l h ∙ simp (le-leb _ _ t)
 
 pub part-start : (m k n : ℕ) (ws : List ℕ) → at-most m (part k n ws) ≡ at-most m (part (k + 0) (n - 0) ws)
 part-start m k n ws =
@@ -35,10 +43,20 @@ unfolding at-most
 part-end m k n i ws l = let e : n - i ≡ 0 = omega arith in simp e
 
 -- a part whose words are in range has its first in range, and so the next
-first : (m k n : ℕ) (ws : List ℕ) → k < length ws → at-most m (take (suc n) (drop k ws)) ≡ true → (getD ws k 0 ≤ m) × (at-most m (take n (drop (suc k) ws)) ≡ true)
+first : (m k n : ℕ) (ws : List ℕ) → k < length ws → at-most m (take (suc n) (drop k ws)) ≡ true
+    → (getD ws k 0 ≤ m) × (at-most m (take n (drop (suc k) ws)) ≡ true)
 first m k n ws h q =
     let both = and-eq-true-iff (leb (getD ws k 0) m) (at-most m (take n (drop (suc k) ws))) .0 (sym (part-turn m k n ws h) ∙ q) in
     (leb-true _ _ (both .0), both .1)
+
+each : (a b c d e f : Bool) → (a && b && c && d && e && f) ≡ true → (a ≡ true) × (b ≡ true) × (c ≡ true) × (d ≡ true) × (e ≡ true) × (f ≡ true)
+each a b c d e f q =
+    let u = and-eq-true-iff (a && b && c && d && e) f .0 q in
+    let v = and-eq-true-iff (a && b && c && d) e .0 (u .0) in
+    let w = and-eq-true-iff (a && b && c) d .0 (v .0) in
+    let x = and-eq-true-iff (a && b) c .0 (w .0) in
+    let y = and-eq-true-iff a b .0 (x .0) in
+    (y .0, y .1, x .1, w .1, v .1, u .1)
 
 -- what a state's words are known to be
 pub record InRange (ws : List ℕ) : Type 0 where
@@ -52,18 +70,16 @@ pub record InRange (ws : List ℕ) : Type 0 where
 pub in-range : (ws : List ℕ) → length ws ≡ 20 → is-state ws ≡ true → InRange ws
 unfolding is-state
 in-range ws l q =
-    let a = and-eq-true-iff _ _ .0 q in
-    let b = and-eq-true-iff _ _ .0 (a .0) in
-    let c = and-eq-true-iff _ _ .0 (b .0) in
-    let d = and-eq-true-iff _ _ .0 (c .0) in
-    let e = and-eq-true-iff _ _ .0 (d .0) in
-    let x = first 65535 17 2 ws (omega arith) (a .1) in
+    let small : ℕ → ℕ → ℕ → Bool = λ m k n. at-most m (part k n ws) in
+    let held =
+    each (small 4294967295 2 1) (small 1 5 7) (small 10 14 1) (small 4294967295 15 1) (small 255 16 1) (small 65535 17 3) q in
+    let x = first 65535 17 2 ws (omega arith) (held .5) in
     let y = first 65535 18 1 ws (omega arith) (x .1) in
     let z = first 65535 19 0 ws (omega arith) (y .1) in
     record {
-      job = first 4294967295 2 0 ws (omega arith) (e .0) .0;
-      place = first 4294967295 15 0 ws (omega arith) (c .1) .0;
-      byte = first 255 16 0 ws (omega arith) (b .1) .0;
+      job = first 4294967295 2 0 ws (omega arith) (held .0) .0;
+      place = first 4294967295 15 0 ws (omega arith) (held .3) .0;
+      byte = first 255 16 0 ws (omega arith) (held .4) .0;
       count = x .0;
       address = y .0;
       taken = z .0;

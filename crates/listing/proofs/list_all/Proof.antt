@@ -1,4 +1,4 @@
--- `list_all` is safe and ends: the readings left fall. The lent memory keeps its lengths.
+-- `list_all` is safe and ends: the readings left fall. A reading keeps the lengths of what is lent, so all do.
 mod Places
 use mathlib.Core.Path.{_≡_, _∙_}
 use lib.ListN.{length}
@@ -15,12 +15,10 @@ abbrev μ-loop : tie.MeasureT-loop
 μ-loop page₀ line₀ staging₀ store₀ font l₀ readings₀ page line staging store l readings = readings
 
 loop-again : tie.Need-loop-again Inv-loop μ-loop
-loop-again c = (
-  list-some-at-loop-again c .list-some .kept .1 .0 ∙ loop-at-loop-again c .loop .inv .0,
-  list-some-at-loop-again c .list-some .kept .1 .1 .0 ∙ loop-at-loop-again c .loop .inv .1,
-  list-some-at-loop-again c .list-some .kept .1 .1 .1 .0 ∙ loop-at-loop-again c .loop .inv .2,
-  list-some-at-loop-again c .list-some .kept .1 .1 .1 .1 .0 ∙ loop-at-loop-again c .loop .inv .3,
-)
+loop-again c =
+    let k = list-some-at-loop-again c .list-some .kept .1 in
+    let i = loop-at-loop-again c .loop .inv in
+    (k .0 ∙ i .0, k .1 .0 ∙ i .1, k .1 .1 .0 ∙ i .2, k .1 .1 .1 .0 ∙ i .3)
 
 pub list-all-spec : {M : Type 1} → statement M
 list-all-spec =

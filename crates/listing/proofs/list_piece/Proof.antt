@@ -1,4 +1,4 @@
--- `list_piece` is safe and ends: each turn takes a byte or is the last. The lent memory keeps its lengths.
+-- `list_piece` is safe and ends: each turn takes a byte or is the last. A turn keeps the lengths of what is lent, so all turns do.
 mod Places
 use Prim.Native.Nat.{_-_}
 use mathlib.Core.Path.{_≡_, _∙_}
@@ -15,25 +15,31 @@ Inv-loop piece page₀ line₀ staging₀ store₀ font l₀ page line staging s
 abbrev μ-loop : tie.MeasureT-loop
 μ-loop piece page₀ line₀ staging₀ store₀ font l₀ page line staging store l = length piece - l .taken
 
+-- after a turn, against what was lent; the first two arguments of `list_rest` are the listing and the piece
+kept : (c : tie.After-list-rest Inv-loop μ-loop)
+    → let m = c .list-rest .last .1 .1 in
+    let a = start-at-list-rest c .args in
+    (length (m .0) ≡ length (a .page .now)) × (length (m .1 .0) ≡ length (a .line .now)) × (length (m .1 .1 .0) ≡ length (a .staging .now)) ×
+    (length (m .1 .1 .1 .0) ≡ length (a .store .now))
+kept c =
+    let k = c .list-rest .kept .1 .1 in
+    let i = loop-at-list-rest c .loop .inv in
+    (k .0 ∙ i .0, k .1 .0 ∙ i .1, k .1 .1 .0 ∙ i .2, k .1 .1 .1 .0 ∙ i .3)
+
 same-length : tie.Need-same-length Inv-loop μ-loop
-same-length c = list-rest-at-same-length-4 c .list-rest .kept .1 .1 .0 ∙ loop-at-same-length-4 c .loop .inv .0
+same-length c = kept (list-rest-at-then3 c) .0
 
 same-length-2 : tie.Need-same-length-2 Inv-loop μ-loop
-same-length-2 c = list-rest-at-same-length-4 c .list-rest .kept .1 .1 .1 .0 ∙ loop-at-same-length-4 c .loop .inv .1
+same-length-2 c = kept (list-rest-at-then3 c) .1
 
 same-length-3 : tie.Need-same-length-3 Inv-loop μ-loop
-same-length-3 c = list-rest-at-same-length-4 c .list-rest .kept .1 .1 .1 .1 .0 ∙ loop-at-same-length-4 c .loop .inv .2
+same-length-3 c = kept (list-rest-at-then3 c) .2
 
 same-length-4 : tie.Need-same-length-4 Inv-loop μ-loop
-same-length-4 c = list-rest-at-same-length-4 c .list-rest .kept .1 .1 .1 .1 .1 .0 ∙ loop-at-same-length-4 c .loop .inv .3
+same-length-4 c = kept (list-rest-at-then3 c) .3
 
 loop-again : tie.Need-loop-again Inv-loop μ-loop
-loop-again c = (
-  list-rest-at-loop-again c .list-rest .kept .1 .1 .0 ∙ loop-at-loop-again c .loop .inv .0,
-  list-rest-at-loop-again c .list-rest .kept .1 .1 .1 .0 ∙ loop-at-loop-again c .loop .inv .1,
-  list-rest-at-loop-again c .list-rest .kept .1 .1 .1 .1 .0 ∙ loop-at-loop-again c .loop .inv .2,
-  list-rest-at-loop-again c .list-rest .kept .1 .1 .1 .1 .1 .0 ∙ loop-at-loop-again c .loop .inv .3,
-)
+loop-again c = kept (list-rest-at-else3 c)
 
 pub list-piece-spec : {M : Type 1} → statement M
 list-piece-spec =

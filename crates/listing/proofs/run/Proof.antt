@@ -1,4 +1,4 @@
--- `run` is safe and ends.
+-- `run` is safe and ends: opening and then listing keep the lengths of what they are lent.
 mod Places
 use mathlib.Core.Path.{_∙_}
 use borrow.Author.Needs.{needs}

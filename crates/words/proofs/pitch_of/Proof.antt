@@ -1,4 +1,4 @@
--- `pitch_of` meets its contract.
+-- `pitch_of`: the code's test is the definition's.
 use borrow.Author.Tests.{eq-eqb, ne-eqb}
 use Rattle.words.specs.Words.{pitch-of}
 use Rattle.words.proofs.pitch_of.Statement.{statement}

@@ -1,4 +1,4 @@
--- `pitch_word` meets its contract.
+-- `pitch_word`: in each arm the pitch is known, and the definition gives that arm's number.
 use borrow.Author.Needs.{needs}
 use mathlib.Core.Path.{sym, ap}
 use Rattle.sheet.specs.declared.Pitch.{Pitch}

@@ -1,15 +1,8 @@
--- `truth` meets its contract.
+-- `truth`: each arm of the test is the definition's.
 use Rattle.words.specs.Words.{truth}
 use Rattle.words.proofs.truth.Statement.{statement}
 use Rattle.words.proofs.truth.Tie as tie
 
-returns : tie.Need-returns
-unfolding truth
-returns c = simp (c .if1 .taken)
-
-returns-2 : tie.Need-returns-2
-unfolding truth
-returns-2 c = simp (c .if1 .left)
-
 pub truth-spec : {M : Type 1} → statement M
-truth-spec = tie.close (tie.spec returns returns-2)
+unfolding truth
+truth-spec = tie.close (tie.spec (λ c. simp (c .if1 .taken)) (λ c. simp (c .if1 .left)))

@@ -1,58 +1,72 @@
--- `calls::clocktoad_close` meets its contract.
+-- `calls::clocktoad_close`: each test that is passed is known from there on; what fails one is answered by its number alone, and what passes all is
+-- told as `close` gives it, but for a refusal, which writes no report.
 mod Places
 use borrow.Author.Needs.{needs}
+use Prim.Native.Nat.{ℕ}
 use mathlib.Core.Bool.{true}
-use mathlib.Core.Path.{_≡_, ap, sym, _∙_}
+use mathlib.Core.List.{List}
+use mathlib.Core.Path.{_≡_, sym, _∙_}
 use borrow.Author.Tests.{not-false, not-true}
-use Rattle.sheet.specs.Edition.{lp2}
-use Rattle.printer.specs.declared.Closing.{Closing}
-use Rattle.printer.specs.declared.Printer.{Printer}
-use Rattle.printer.specs.Closing.{closing}
-use Rattle.clocktoad.specs.Calls.{closing-words}
+use lib.ListN.{length}
+use Rattle.clocktoad.specs.Calls.{close-call, closing-words}
 use Rattle.words.specs.Words.{is-state}
 use Rattle.clocktoad.proofs.Calling.{close-10, close-21, close-22, closed-refused, closed-told, closes}
 use Rattle.clocktoad.proofs.calls.clocktoad_close.Statement.{statement}
 use Rattle.clocktoad.proofs.calls.clocktoad_close.Tie as tie
 use Places.*
 
+abbrev state : tie.Start → List ℕ
+state s = s .args .state .now
+
+abbrev told : tie.Start → List ℕ
+told s = s .args .report .now
+
+state-right : (c : tie.Else1) → length (state (c .before .before .before)) ≡ 20
+state-right c = c .if1 .left
+
+report-right : (c : tie.Else2) → length (told (start-at-else2 c)) ≡ 4
+report-right c = c .if2 .left
+
+held : (c : tie.Else3) → is-state (state (start-at-else3 c)) ≡ true
+held c = sym (c .before .is-state .ensures) ∙ not-false (c .before .is-state .result) (c .if3 .left)
+
+closed-as-asked : (c : tie.After-close)
+    → let s = start-at-close c in closing-words (c .close .result) (told s) ≡ close-call (state s) (told s)
+closed-as-asked c =
+    let s = start-at-close c in
+    closes (state s) (told s) (state-right (else1-at-close c)) (report-right (else2-at-close c)) (c .close .result) (held (c .before .before))
+    (c .before .state-of .ensures) (c .close .ensures)
+
 returns : tie.Need-returns
-returns c = let a = c .before .before .before .args in close-21 (a .state .now) (a .report .now) (c .if1 .taken)
+returns c = let s = c .before .before .before in close-21 (state s) (told s) (c .if1 .taken)
 
 returns-2 : tie.Need-returns-2
-returns-2 c = let a = start-at-returns-2 c .args in close-22 (a .state .now) (a .report .now) (c .before .if1 .left) (c .if2 .taken)
+returns-2 c = let s = start-at-returns-2 c in close-22 (state s) (told s) (state-right (c .before)) (c .if2 .taken)
 
 returns-3 : tie.Need-returns-3
 returns-3 c =
-    let a = start-at-returns-3 c .args in
-    close-10 (a .state .now) (a .report .now) (c .before .before .before .if1 .left) (c .before .before .if2 .left)
+    let s = start-at-returns-3 c in
+    close-10 (state s) (told s) (state-right (c .before .before .before)) (report-right (c .before .before))
     (sym (c .before .is-state .ensures) ∙ not-true (c .before .is-state .result) (c .if3 .taken))
 
 state-of-requires : tie.Need-state-of-requires
-state-of-requires c κs = (c .before .before .before .if1 .left, sym (c .before .is-state .ensures) ∙ not-false (c .before .is-state .result) (c .if3 .left))
+state-of-requires c κs = (state-right (c .before .before .before), held c)
 
 returns-4 : tie.Need-returns-4
 returns-4 c =
-    let a = start-at-returns-4 c .args in
-    let q : is-state (a .state .now) ≡ true =
-    sym (is-state-at-returns-4 c .is-state .ensures) ∙ not-false (is-state-at-returns-4 c .is-state .result) (else3-at-returns-4 c .if3 .left) in
-    let f = c .before .before .close .ensures ∙ ap (λ (p : Printer). closing lp2 p) (c .before .before .before .state-of .ensures) in
-    closed-refused _ (a .report .now) (sym (c .before .close-number .ensures) ∙ c .if4 .taken)
-    ∙ ap (λ (x : Closing). closing-words x (a .report .now)) f
-    ∙ closes (a .state .now) (a .report .now) (else1-at-returns-4 c .if1 .left) (else2-at-returns-4 c .if2 .left) q
+    let s = start-at-returns-4 c in
+    let d = c .before .before in
+    closed-refused (state s) (told s) (d .close .result) (closed-as-asked d) (c .before .close-number .ensures) (c .if4 .taken)
 
 tell-requires : tie.Need-tell-requires
-tell-requires c κs = else2-at-tell-requires c .if2 .left
+tell-requires c κs = report-right (else2-at-tell-requires c)
 
 returns-5 : tie.Need-returns-5
 returns-5 c =
-    let a = start-at-returns-5 c .args in
-    let q : is-state (a .state .now) ≡ true =
-    sym (is-state-at-returns-5 c .is-state .ensures) ∙ not-false (is-state-at-returns-5 c .is-state .result) (else3-at-returns-5 c .if3 .left) in
-    let f = close-at-returns-5 c .close .ensures ∙ ap (λ (p : Printer). closing lp2 p) (state-of-at-returns-5 c .state-of .ensures) in
-    simp (c .before .before .tell .ensures, c .before .before .before .close-place .ensures, close-number-at-returns-5 c .close-number .ensures)
-    (closed-told _ (a .report .now) (λ e. else4-at-returns-5 c .if4 .left (close-number-at-returns-5 c .close-number .ensures ∙ e))
-    ∙ ap (λ (x : Closing). closing-words x (a .report .now)) f
-    ∙ closes (a .state .now) (a .report .now) (else1-at-returns-5 c .if1 .left) (else2-at-returns-5 c .if2 .left) q)
+    let s = start-at-returns-5 c in
+    let d = close-at-returns-5 c in
+    closed-told (state s) (told s) (d .close .result) (closed-as-asked d) (close-number-at-returns-5 c .close-number .ensures)
+    (else4-at-returns-5 c .if4 .left) (c .before .before .tell .ensures) (c .before .before .before .close-place .ensures)
 
 pub clocktoad-close-spec : {M : Type 1} → statement M
 clocktoad-close-spec =

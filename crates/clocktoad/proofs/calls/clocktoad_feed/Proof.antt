@@ -1,100 +1,87 @@
--- `calls::clocktoad_feed` meets its contract.
+-- `calls::clocktoad_feed`: each test that is passed is known from there on; what fails one is answered by its number alone, and what passes all is
+-- fed, kept and told as `feed` gives it, but for a refusal, which writes neither state nor report.
 mod Places
 use borrow.Author.Needs.{needs}
+use Prim.Native.Nat.{ℕ}
 use mathlib.Core.Bool.{true}
-use mathlib.Core.Path.{_≡_, ap, sym, _∙_}
-use native.Mathlib.Omega.{arith}
+use mathlib.Core.List.{List}
+use mathlib.Core.Path.{_≡_, sym, _∙_}
 use borrow.Author.Tests.{not-false, not-true}
-use Rattle.sheet.specs.Edition.{lp2}
-use Rattle.printer.specs.declared.Printer.{Printer}
-use Rattle.printer.specs.Given.{machine}
-use Rattle.protocol.specs.Answers.{refusal}
-use Rattle.protocol.specs.Calls.{Feeding, feeding}
-use Rattle.clocktoad.specs.Calls.{feeding-report, feeding-words}
+use lib.ListN.{length}
+use Rattle.protocol.specs.Calls.{Feeding}
+use Rattle.protocol.specs.Given.{given-feeding}
+use Rattle.clocktoad.specs.Calls.{feeding-words}
 use Rattle.words.specs.Words.{is-state}
-use Rattle.clocktoad.proofs.Calling.{fed-on, fed-refused, feed-10, feed-21, feed-22, feeds, refusal-numbers}
+use Rattle.clocktoad.proofs.Calling.{Lent, at-feed, fed-on, fed-refused, feed-10, feed-21, feed-22, feeds}
 use Rattle.clocktoad.proofs.calls.clocktoad_feed.Statement.{statement}
 use Rattle.clocktoad.proofs.calls.clocktoad_feed.Tie as tie
 use Places.*
 
+abbrev lent : tie.Start → Lent
+lent s =
+    let a = s .args in
+    record { state = a .state .now; page = a .page .now; line = a .line .now; staging = a .staging .now; store = a .store .now; font = a .font .now }
+
+abbrev piece : tie.Start → List ℕ
+piece s = s .args .piece .now
+
+abbrev told : tie.Start → List ℕ
+told s = s .args .report .now
+
+state-right : (c : tie.Else1) → length (lent (start-at-else1 c) .state) ≡ 20
+state-right c = c .if1 .left
+
+report-right : (c : tie.Else2) → length (told (start-at-else2 c)) ≡ 4
+report-right c = c .if2 .left
+
+held : (c : tie.Else3) → is-state (lent (start-at-else3 c) .state) ≡ true
+held c = sym (c .before .is-state .ensures) ∙ not-false (c .before .is-state .result) (c .if3 .left)
+
+-- what `feed` gave back; its first two arguments are the state and the piece
+abbrev fed : tie.After-feed → Feeding
+fed c = let m = c .feed .last .1 .1 in given-feeding (c .feed .result) (m .0) (m .1 .0) (m .1 .1 .0) (m .1 .1 .1 .0)
+
+fed-as-asked : (c : tie.After-feed)
+    → let s = start-at-feed c in feeding-words (fed c) (lent s .state) (told s) ≡ at-feed (lent s) (piece s) (told s)
+fed-as-asked c =
+    let s = start-at-feed c in
+    feeds (lent s) (piece s) (told s) (state-right (else1-at-feed c)) (report-right (else2-at-feed c)) (fed c) (held (else3-at-feed c))
+    (state-of-at-feed c .state-of .ensures) (c .feed .ensures)
+
 returns : tie.Need-returns
-returns c =
-    let a = start-at-returns c .args in (
-      feed-21 (a .font .now) (a .piece .now) (a .state .now) (a .page .now) (a .line .now) (a .staging .now) (a .store .now) (a .report .now)
-          (c .if1 .taken),
-      λ l. absurd (omega arith),
-    )
+returns c = let s = start-at-returns c in feed-21 (lent s) (piece s) (told s) (c .if1 .taken)
 
 returns-2 : tie.Need-returns-2
-returns-2 c =
-    let a = start-at-returns-2 c .args in (
-      feed-22 (a .font .now) (a .piece .now) (a .state .now) (a .page .now) (a .line .now) (a .staging .now) (a .store .now) (a .report .now)
-          (c .before .if1 .left) (c .if2 .taken),
-      λ l. absurd (omega arith),
-    )
+returns-2 c = let s = start-at-returns-2 c in feed-22 (lent s) (piece s) (told s) (state-right (c .before)) (c .if2 .taken)
 
 returns-3 : tie.Need-returns-3
 returns-3 c =
-    let a = start-at-returns-3 c .args in (
-      feed-10 (a .font .now) (a .piece .now) (a .state .now) (a .page .now) (a .line .now) (a .staging .now) (a .store .now) (a .report .now)
-          (else1-at-returns-3 c .if1 .left) (c .before .before .before .if2 .left)
-          (sym (c .before .is-state .ensures) ∙ not-true (c .before .is-state .result) (c .if3 .taken)),
-      λ l. absurd (omega arith),
-    )
+    let s = start-at-returns-3 c in
+    feed-10 (lent s) (piece s) (told s) (state-right (else1-at-returns-3 c)) (report-right (c .before .before .before))
+    (sym (c .before .is-state .ensures) ∙ not-true (c .before .is-state .result) (c .if3 .taken))
 
 state-of-requires : tie.Need-state-of-requires
-state-of-requires c κs = (
-  else1-at-state-of-requires c .if1 .left,
-  sym (c .before .before .is-state .ensures) ∙ not-false (c .before .before .is-state .result) (c .before .if3 .left),
-)
+state-of-requires c κs = (state-right (else1-at-state-of-requires c), held (c .before))
 
 returns-4 : tie.Need-returns-4
 returns-4 c =
-    let a = start-at-returns-4 c .args in
-    let q : is-state (a .state .now) ≡ true =
-    sym (is-state-at-returns-4 c .is-state .ensures) ∙ not-false (is-state-at-returns-4 c .is-state .result) (else3-at-returns-4 c .if3 .left) in
-    let f =
-    feed-at-returns-4 c .feed .ensures
-    ∙ ap (λ (p : Printer). feeding lp2 (a .font .now) (a .piece .now) (machine p (a .page .now) (a .line .now) (a .staging .now) (a .store .now)))
-    (state-of-at-returns-4 c .state-of .ensures) in
-    let no : refusal (feed-at-returns-4 c .feed .result .answer) ≡ true = sym (c .before .before .refusal .ensures) ∙ c .before .if4 .taken in (
-      simp (c .answer-number .ensures)
-          (fed-refused _ (a .state .now) (a .report .now) (sym (c .before .before .refusal .ensures) ∙ c .before .if4 .taken)
-          ∙ ap (λ (x : Feeding). feeding-words x (a .state .now) (a .report .now)) f
-          ∙ feeds (a .font .now) (a .piece .now) (a .state .now) (a .page .now) (a .line .now) (a .staging .now) (a .store .now) (a .report .now)
-          (else1-at-returns-4 c .if1 .left) (else2-at-returns-4 c .if2 .left) q),
-      λ l. absurd (omega (arith, refusal-numbers _ no, c .answer-number .ensures)),
-    )
+    let s = start-at-returns-4 c in
+    let f = feed-at-returns-4 c in
+    fed-refused (lent s) (piece s) (told s) (fed f) (fed-as-asked f) (c .answer-number .ensures) (c .before .before .refusal .ensures) (c .before .if4 .taken)
 
 put-requires : tie.Need-put-requires
-put-requires c κs = else1-at-put-requires c .if1 .left
+put-requires c κs = state-right (else1-at-put-requires c)
 
 tell-requires : tie.Need-tell-requires
-tell-requires c κs = else2-at-tell-requires c .if2 .left
+tell-requires c κs = report-right (else2-at-tell-requires c)
 
 returns-5 : tie.Need-returns-5
-unfolding feeding-report
 returns-5 c =
-    let a = start-at-returns-5 c .args in
-    let q : is-state (a .state .now) ≡ true =
-    sym (is-state-at-returns-5 c .is-state .ensures) ∙ not-false (is-state-at-returns-5 c .is-state .result) (else3-at-returns-5 c .if3 .left) in
-    let f =
-    feed-at-returns-5 c .feed .ensures
-    ∙ ap (λ (p : Printer). feeding lp2 (a .font .now) (a .piece .now) (machine p (a .page .now) (a .line .now) (a .staging .now) (a .store .now)))
-    (state-of-at-returns-5 c .state-of .ensures) in (
-      simp (
-        c .answer-number2 .ensures,
-        put-at-returns-5 c .put .ensures .0,
-        c .before .before .before .tell .ensures,
-        noted-number-at-returns-5 c .noted-number .ensures,
-        noted-place-at-returns-5 c .noted-place .ensures,
-      )
-          (fed-on _ (a .state .now) (a .report .now) (sym (refusal-at-returns-5 c .refusal .ensures) ∙ else4-at-returns-5 c .if4 .left)
-          ∙ ap (λ (x : Feeding). feeding-words x (a .state .now) (a .report .now)) f
-          ∙ feeds (a .font .now) (a .piece .now) (a .state .now) (a .page .now) (a .line .now) (a .staging .now) (a .store .now) (a .report .now)
-          (else1-at-returns-5 c .if1 .left) (else2-at-returns-5 c .if2 .left) q),
-      λ l. put-at-returns-5 c .put .ensures .1,
-    )
+    let s = start-at-returns-5 c in
+    let f = feed-at-returns-5 c in
+    fed-on (lent s) (piece s) (told s) (fed f) (fed-as-asked f) (c .answer-number2 .ensures) (refusal-at-returns-5 c .refusal .ensures)
+    (else4-at-returns-5 c .if4 .left) (put-at-returns-5 c .put .ensures) (c .before .before .before .tell .ensures)
+    (noted-number-at-returns-5 c .noted-number .ensures) (noted-place-at-returns-5 c .noted-place .ensures)
 
 pub clocktoad-feed-spec : {M : Type 1} → statement M
 clocktoad-feed-spec =

@@ -1,30 +1,32 @@
--- `calls::clocktoad_open` meets its contract.
+-- `calls::clocktoad_open`: a state of the right length gets the words of what `open` gives back, which are a state; of a wrong one nothing is touched.
 mod Places
 use borrow.Author.Needs.{needs}
-use mathlib.Core.Path.{refl, ap, _∙_}
-use Rattle.sheet.specs.Edition.{lp2}
 use Rattle.printer.specs.Machine.{shut}
-use Rattle.clocktoad.specs.Calls.{opening-words}
-use Rattle.clocktoad.proofs.Calling.{open-21, opens}
+use Rattle.protocol.specs.Calls.{Opening}
+use Rattle.protocol.specs.Given.{given-opening}
+use Rattle.clocktoad.proofs.Calling.{Lent, open-21, opens}
 use Rattle.clocktoad.proofs.calls.clocktoad_open.Statement.{statement}
 use Rattle.clocktoad.proofs.calls.clocktoad_open.Tie as tie
 use Places.*
 
+abbrev lent : tie.Start → Lent
+lent s =
+    let a = s .args in
+    record { state = a .state .now; page = a .page .now; line = a .line .now; staging = a .staging .now; store = a .store .now; font = a .font .now }
+
+-- what `open` gave back; its first two arguments are numbers
+abbrev opened : tie.After-open → Opening
+opened c = let m = c .«open» .last .1 .1 in given-opening (c .«open» .result) (m .0) (m .1 .0) (m .1 .1 .0) (m .1 .1 .1 .0)
+
 returns : tie.Need-returns
-returns c =
-    let a = start-at-returns c .args in (
-      open-21 (a .lines) (a .spacing) (a .font .now) (a .state .now) (a .page .now) (a .line .now) (a .staging .now) (a .store .now) (c .if1 .taken),
-      λ n. absurd (n refl),
-    )
+returns c = let s = start-at-returns c in open-21 (s .args .lines) (s .args .spacing) (lent s) (c .if1 .taken)
 
 returns-2 : tie.Need-returns-2
-unfolding opening-words
 returns-2 c =
-    let a = start-at-returns-2 c .args in (
-      simp (c .answer-number .ensures, c .before .before .before .put .ensures .0)
-          (ap opening-words (open-at-returns-2 c .«open» .ensures shut) ∙ opens (a .lines) (a .spacing) (a .font .now) (a .state .now) (a .page .now) (a .line .now) (a .staging .now) (a .store .now) (else1-at-returns-2 c .if1 .left)),
-      λ n. c .before .before .before .put .ensures .1,
-    )
+    let s = start-at-returns-2 c in
+    let o = open-at-returns-2 c in
+    opens (s .args .lines) (s .args .spacing) (lent s) (opened o) (else1-at-returns-2 c .if1 .left) (o .«open» .ensures shut)
+    (c .before .before .before .put .ensures) (c .answer-number .ensures)
 
 pub clocktoad-open-spec : {M : Type 1} → statement M
 clocktoad-open-spec =

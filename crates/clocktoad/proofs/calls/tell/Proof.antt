@@ -1,4 +1,4 @@
--- `calls::tell` meets its contract.
+-- `calls::tell`: four writes from the first word on make a report of four words anew.
 use borrow.Author.Needs.{needs}
 use mathlib.Core.List.{[], _∷_}
 use Rattle.words.proofs.Writing.{written-behind}
@@ -6,9 +6,7 @@ use Rattle.clocktoad.proofs.calls.tell.Statement.{statement}
 use Rattle.clocktoad.proofs.calls.tell.Tie as tie
 
 returns : tie.Need-returns
-returns c =
-    let a = c .args in
-    written-behind (a .taken ∷ a .number ∷ a .place ∷ 0 ∷ []) (a .report .now) 0 (c .pre)
+returns c = let a = c .args in written-behind (a .taken ∷ a .number ∷ a .place ∷ 0 ∷ []) (a .report .now) 0 (c .pre)
 
 pub tell-spec : {M : Type 1} → statement M
 tell-spec = tie.close (tie.spec (λ c. search needs) (λ c. search needs) (λ c. search needs) (λ c. search needs) (λ c. search needs) returns)

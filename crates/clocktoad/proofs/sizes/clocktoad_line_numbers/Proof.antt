@@ -1,4 +1,4 @@
--- `sizes::clocktoad_line_numbers` meets its contract.
+-- `sizes::clocktoad_line_numbers`: the edition's columns are written out.
 use mathlib.Core.Path.{refl}
 use Rattle.sheet.specs.Edition.{lp2}
 use Rattle.clocktoad.proofs.sizes.clocktoad_line_numbers.Statement.{statement}

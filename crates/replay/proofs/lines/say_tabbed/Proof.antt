@@ -1,4 +1,4 @@
--- `lines::say_tabbed` is safe and ends.
+-- `lines::say_tabbed` is safe and ends: the stops are counted up to 128.
 use Prim.Native.Nat.{_-_, _≤_}
 use borrow.Author.Needs.{needs}
 use Rattle.replay.proofs.lines.say_tabbed.Statement.{statement}

@@ -5,12 +5,9 @@ use borrow.Author.Needs.{needs}
 use Rattle.replay.proofs.script.perform.Statement.{statement}
 use Rattle.replay.proofs.script.perform.Tie as tie
 
-slice-aggregate-open-job : tie.Need-slice-aggregate-open-job
-slice-aggregate-open-job c = simp length-take (omega arith)
-
 pub perform-spec : {M : Type 1} → statement M
 perform-spec =
     tie.close
     (tie.spec (λ c. search needs) (λ c κs. search needs) (λ c. search needs) (λ c κs. search needs) (λ c κs. search needs) (λ c. search needs)
-    (λ c. search needs) (λ c. search needs) (λ c. search needs) slice-aggregate-open-job (λ c. search needs) (λ c. search needs) (λ c. search needs)
-    (λ c κs. search needs) (λ c. search needs) (λ c. search needs) (λ c. search needs) (λ c. search needs) (λ c. search needs))
+    (λ c. search needs) (λ c. search needs) (λ c. search needs) (λ c. simp length-take (omega arith)) (λ c. search needs) (λ c. search needs)
+    (λ c. search needs) (λ c κs. search needs) (λ c. search needs) (λ c. search needs) (λ c. search needs) (λ c. search needs) (λ c. search needs))

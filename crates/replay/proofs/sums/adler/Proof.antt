@@ -1,8 +1,7 @@
--- `sums::adler` meets its contract. The loop's invariant: the sum of what is left, from the halves so far, is the sum of all.
+-- `sums::adler`: at each turn the sum of what is left, from the halves so far, is the sum of all.
 mod Places
 use Prim.Native.Nat.{_-_, _≤_, _<_}
 use mathlib.Core.Path.{_≡_, sym, _∙_}
-use native.Mathlib.Omega.{arith}
 use lib.ListN.{drop, length}
 use Rattle.replay.specs.Adler.{sum-on}
 use Rattle.replay.proofs.Summing.{summed, summed-more}
@@ -19,18 +18,18 @@ abbrev μ-loop : tie.MeasureT-loop
 μ-loop bytes first₀ second₀ i₀ first second i = length bytes - i
 
 loop-again : tie.Need-loop-again Inv-loop μ-loop
-loop-again c = (
-  loop-at-loop-again c .loop .inv .0
-      ∙ summed-more (start-at-loop-again c .args .bytes .now) (loop-at-loop-again c .loop .i) (loop-at-loop-again c .loop .first)
-      (loop-at-loop-again c .loop .second) _ _ _ (omega arith) (c .before .before .wide .ensures .0) (c .before .reduced .ensures .0)
-      (c .reduced2 .ensures .0),
-  search needs,
-  search needs,
-  search needs,
-)
+loop-again c =
+    let l = loop-at-loop-again c .loop in (
+      l .inv .0
+          ∙ summed-more (start-at-loop-again c .args .bytes .now) (l .i) (l .first) (l .second) (in-loop-at-loop-again c .loop-test .taken)
+          (c .before .before .wide .ensures .0) (c .before .reduced .ensures .0) (c .reduced2 .ensures .0),
+      search needs,
+      search needs,
+      search needs,
+    )
 
 returns : tie.Need-returns Inv-loop μ-loop
-returns c = sym (c .before .loop .inv .0 ∙ summed (c .before .before .before .args .bytes .now) (c .before .loop .i) _ _ (omega arith))
+returns c = sym (c .before .loop .inv .0 ∙ summed (c .before .before .before .args .bytes .now) (c .before .loop .i) _ _ (c .loop-test .left))
 
 pub adler-spec : {M : Type 1} → statement M
 adler-spec =

@@ -1,8 +1,7 @@
--- `sums::adler_numbers` meets its contract. The loop's invariant: the sum of what is left, from the halves so far, is the sum of all.
+-- `sums::adler_numbers`: at each turn the sum of what is left, from the halves so far, is the sum of all; a number is two turns of bytes.
 mod Places
 use Prim.Native.Nat.{_-_, _≤_, _<_}
 use mathlib.Core.Path.{_≡_, sym, _∙_}
-use native.Mathlib.Omega.{arith}
 use lib.ListN.{drop, length}
 use Rattle.replay.specs.Adler.{sum-on, two-bytes}
 use Rattle.replay.proofs.Summing.{numbers-more, numbers-summed}
@@ -19,19 +18,19 @@ abbrev μ-loop : tie.MeasureT-loop
 μ-loop numbers first₀ second₀ i₀ first second i = length numbers - i
 
 loop-again : tie.Need-loop-again Inv-loop μ-loop
-loop-again c = (
-  loop-at-loop-again c .loop .inv .0
-      ∙ numbers-more (start-at-loop-again c .args .numbers .now) (loop-at-loop-again c .loop .i) (loop-at-loop-again c .loop .first)
-      (loop-at-loop-again c .loop .second) _ _ _ _ _ _ (omega arith) (high-byte-at-loop-again c .high-byte .ensures .0)
-      (c .before .before .low-byte .ensures .0) (reduced-at-loop-again c .reduced .ensures .0) (c .before .before .before .reduced2 .ensures .0)
-      (c .before .reduced3 .ensures .0) (c .reduced4 .ensures .0),
-  search needs,
-  search needs,
-  search needs,
-)
+loop-again c =
+    let l = loop-at-loop-again c .loop in (
+      l .inv .0
+          ∙ numbers-more (start-at-loop-again c .args .numbers .now) (l .i) (l .first) (l .second) (in-loop-at-loop-again c .loop-test .taken)
+          (high-byte-at-loop-again c .high-byte .ensures .0) (c .before .before .low-byte .ensures .0) (reduced-at-loop-again c .reduced .ensures .0)
+          (c .before .before .before .reduced2 .ensures .0) (c .before .reduced3 .ensures .0) (c .reduced4 .ensures .0),
+      search needs,
+      search needs,
+      search needs,
+    )
 
 returns : tie.Need-returns Inv-loop μ-loop
-returns c = sym (c .before .loop .inv .0 ∙ numbers-summed (c .before .before .before .args .numbers .now) (c .before .loop .i) _ _ (omega arith))
+returns c = sym (c .before .loop .inv .0 ∙ numbers-summed (c .before .before .before .args .numbers .now) (c .before .loop .i) _ _ (c .loop-test .left))
 
 pub adler-numbers-spec : {M : Type 1} → statement M
 adler-numbers-spec =

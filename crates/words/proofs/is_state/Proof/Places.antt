@@ -1,36 +1,6 @@
 -- The places that the proof of `is_state` names. Made by tools/places; nobody has to read it.
 use Rattle.words.proofs.is_state.Tie as tie
 
-abbrev pub at-most-at-returns-3 : tie.Then3 → tie.After-at-most
-at-most-at-returns-3 c = c .before .before .before .before .before
-
-abbrev pub at-most-at-returns-4 : tie.Then4 → tie.After-at-most
-at-most-at-returns-4 c = c .before .before .before .before .before .before .before
-
-abbrev pub at-most-at-returns-5 : tie.Then5 → tie.After-at-most
-at-most-at-returns-5 c = c .before .before .before .before .before .before .before .before .before
-
-abbrev pub at-most-at-returns-6 : tie.After-at-most6 → tie.After-at-most
-at-most-at-returns-6 c = c .before .before .before .before .before .before .before .before .before .before
-
-abbrev pub at-most2-at-returns-4 : tie.Then4 → tie.After-at-most2
-at-most2-at-returns-4 c = c .before .before .before .before .before
-
-abbrev pub at-most2-at-returns-5 : tie.Then5 → tie.After-at-most2
-at-most2-at-returns-5 c = c .before .before .before .before .before .before .before
-
-abbrev pub at-most2-at-returns-6 : tie.After-at-most6 → tie.After-at-most2
-at-most2-at-returns-6 c = c .before .before .before .before .before .before .before .before
-
-abbrev pub at-most3-at-returns-5 : tie.Then5 → tie.After-at-most3
-at-most3-at-returns-5 c = c .before .before .before .before .before
-
-abbrev pub at-most3-at-returns-6 : tie.After-at-most6 → tie.After-at-most3
-at-most3-at-returns-6 c = c .before .before .before .before .before .before
-
-abbrev pub at-most4-at-returns-6 : tie.After-at-most6 → tie.After-at-most4
-at-most4-at-returns-6 c = c .before .before .before .before
-
 abbrev pub else1-at-returns-3 : tie.Then3 → tie.Else1
 else1-at-returns-3 c = c .before .before .before .before
 
@@ -57,3 +27,18 @@ else3-at-returns-5 c = c .before .before .before .before
 
 abbrev pub else3-at-returns-6 : tie.After-at-most6 → tie.Else3
 else3-at-returns-6 c = c .before .before .before .before .before
+
+abbrev pub else4-at-returns-6 : tie.After-at-most6 → tie.Else4
+else4-at-returns-6 c = c .before .before .before
+
+abbrev pub start-at-else2 : tie.Else2 → tie.Start
+start-at-else2 c = c .before .before .before .before .before
+
+abbrev pub start-at-else3 : tie.Else3 → tie.Start
+start-at-else3 c = c .before .before .before .before .before .before .before
+
+abbrev pub start-at-else4 : tie.Else4 → tie.Start
+start-at-else4 c = c .before .before .before .before .before .before .before .before .before
+
+abbrev pub start-at-else5 : tie.Else5 → tie.Start
+start-at-else5 c = c .before .before .before .before .before .before .before .before .before .before .before

@@ -10,30 +10,6 @@ start-at-put-pending-requires c = c .before .before .before .before .before .bef
 abbrev pub start-at-returns : tie.After-slice-known2 → tie.Start
 start-at-returns c = c .before .before .before .before .before .before .before .before .before .before .before .before .before .before .before .before
 
-abbrev pub start-at-slice-write-state-10 : tie.After-truth4 → tie.Start
-start-at-slice-write-state-10 c = c .before .before .before .before .before .before .before .before .before .before
-
-abbrev pub start-at-slice-write-state-11 : tie.After-truth5 → tie.Start
-start-at-slice-write-state-11 c = c .before .before .before .before .before .before .before .before .before .before .before
-
-abbrev pub start-at-slice-write-state-14 : tie.After-truth6 → tie.Start
-start-at-slice-write-state-14 c = c .before .before .before .before .before .before .before .before .before .before .before .before
-
-abbrev pub start-at-slice-write-state-5 : tie.After-struct-known → tie.Start
-start-at-slice-write-state-5 c = c .before .before .before .before .before
-
-abbrev pub start-at-slice-write-state-6 : tie.After-truth → tie.Start
-start-at-slice-write-state-6 c = c .before .before .before .before .before .before
-
-abbrev pub start-at-slice-write-state-7 : tie.After-truth2 → tie.Start
-start-at-slice-write-state-7 c = c .before .before .before .before .before .before .before
-
-abbrev pub start-at-slice-write-state-8 : tie.After-truth3 → tie.Start
-start-at-slice-write-state-8 c = c .before .before .before .before .before .before .before .before
-
-abbrev pub start-at-slice-write-state-9 : tie.After-pitch-word → tie.Start
-start-at-slice-write-state-9 c = c .before .before .before .before .before .before .before .before .before
-
 abbrev pub truth-at-returns : tie.After-slice-known2 → tie.After-truth
 truth-at-returns c = c .before .before .before .before .before .before .before .before .before .before
 

@@ -56,3 +56,7 @@ start-at-place-requires c = c .before .before .before .before .before .before .b
 abbrev pub start-at-place-requires-2 : tie.After-shared-slice-known21 → tie.Start
 start-at-place-requires-2 c = c .before .before .before .before .before .before .before .before .before .before .before .before .before .before
     .before .before .before .before .before .before .before .before .before .before .before .before .before .before .before .before .before .before
+
+abbrev pub start-at-returns : tie.After-place2 → tie.Start
+start-at-returns c = c .before .before .before .before .before .before .before .before .before .before .before .before .before .before .before .before
+    .before .before .before .before .before .before .before .before .before .before .before .before .before .before .before .before .before

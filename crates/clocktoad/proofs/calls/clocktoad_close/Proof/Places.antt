@@ -7,35 +7,26 @@ close-at-returns-5 c = c .before .before .before .before .before .before .before
 abbrev pub close-number-at-returns-5 : tie.After-slice-known2 → tie.After-close-number
 close-number-at-returns-5 c = c .before .before .before .before .before .before
 
-abbrev pub else1-at-returns-4 : tie.Then4 → tie.Else1
-else1-at-returns-4 c = c .before .before .before .before .before .before .before
+abbrev pub else1-at-close : tie.After-close → tie.Else1
+else1-at-close c = c .before .before .before .before .before
 
-abbrev pub else1-at-returns-5 : tie.After-slice-known2 → tie.Else1
-else1-at-returns-5 c = c .before .before .before .before .before .before .before .before .before .before .before .before
-
-abbrev pub else2-at-returns-4 : tie.Then4 → tie.Else2
-else2-at-returns-4 c = c .before .before .before .before .before .before
-
-abbrev pub else2-at-returns-5 : tie.After-slice-known2 → tie.Else2
-else2-at-returns-5 c = c .before .before .before .before .before .before .before .before .before .before .before
+abbrev pub else2-at-close : tie.After-close → tie.Else2
+else2-at-close c = c .before .before .before .before
 
 abbrev pub else2-at-tell-requires : tie.After-close-place → tie.Else2
 else2-at-tell-requires c = c .before .before .before .before .before .before .before .before
 
-abbrev pub else3-at-returns-4 : tie.Then4 → tie.Else3
-else3-at-returns-4 c = c .before .before .before .before
-
-abbrev pub else3-at-returns-5 : tie.After-slice-known2 → tie.Else3
-else3-at-returns-5 c = c .before .before .before .before .before .before .before .before .before
-
 abbrev pub else4-at-returns-5 : tie.After-slice-known2 → tie.Else4
 else4-at-returns-5 c = c .before .before .before .before .before
 
-abbrev pub is-state-at-returns-4 : tie.Then4 → tie.After-is-state
-is-state-at-returns-4 c = c .before .before .before .before .before
+abbrev pub start-at-close : tie.After-close → tie.Start
+start-at-close c = c .before .before .before .before .before .before .before .before
 
-abbrev pub is-state-at-returns-5 : tie.After-slice-known2 → tie.After-is-state
-is-state-at-returns-5 c = c .before .before .before .before .before .before .before .before .before .before
+abbrev pub start-at-else2 : tie.Else2 → tie.Start
+start-at-else2 c = c .before .before .before .before
+
+abbrev pub start-at-else3 : tie.Else3 → tie.Start
+start-at-else3 c = c .before .before .before .before .before .before
 
 abbrev pub start-at-returns-2 : tie.Then2 → tie.Start
 start-at-returns-2 c = c .before .before .before .before
@@ -48,6 +39,3 @@ start-at-returns-4 c = c .before .before .before .before .before .before .before
 
 abbrev pub start-at-returns-5 : tie.After-slice-known2 → tie.Start
 start-at-returns-5 c = c .before .before .before .before .before .before .before .before .before .before .before .before .before .before .before
-
-abbrev pub state-of-at-returns-5 : tie.After-slice-known2 → tie.After-state-of
-state-of-at-returns-5 c = c .before .before .before .before .before .before .before .before

@@ -2,6 +2,9 @@
 use Rattle.replay.proofs.sums.adler.Tie as tie
 
 module _ {Inv-loop : tie.InvT-loop} {μ-loop : tie.MeasureT-loop} where
+  abbrev pub in-loop-at-loop-again : tie.After-reduced2 Inv-loop μ-loop → tie.In-loop Inv-loop μ-loop
+  in-loop-at-loop-again c = c .before .before .before .before
+
   abbrev pub loop-at-loop-again : tie.After-reduced2 Inv-loop μ-loop → tie.At-loop Inv-loop μ-loop
   loop-at-loop-again c = c .before .before .before .before .before
 

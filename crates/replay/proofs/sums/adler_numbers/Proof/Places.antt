@@ -5,6 +5,9 @@ module _ {Inv-loop : tie.InvT-loop} {μ-loop : tie.MeasureT-loop} where
   abbrev pub high-byte-at-loop-again : tie.After-reduced4 Inv-loop μ-loop → tie.After-high-byte Inv-loop μ-loop
   high-byte-at-loop-again c = c .before .before .before .before .before
 
+  abbrev pub in-loop-at-loop-again : tie.After-reduced4 Inv-loop μ-loop → tie.In-loop Inv-loop μ-loop
+  in-loop-at-loop-again c = c .before .before .before .before .before .before .before
+
   abbrev pub loop-at-loop-again : tie.After-reduced4 Inv-loop μ-loop → tie.At-loop Inv-loop μ-loop
   loop-at-loop-again c = c .before .before .before .before .before .before .before .before
 
