@@ -27,7 +27,8 @@ use sheet::sizes::page_bytes;
 // The first of what is lent that has not its exact length.
 pub fn fit(form: Form, page: &[u8], line: &[u16], staging: &[u8], store: &[u8], font: &[u8]) -> Fit
     requires { ⌜ form .lines ≤ 99 ⌝ }
-    ensures { λ r. ⌜ ((p : Printer) → r ≡ fit lp2 form (now (font .entry)) (machine p (now (page .entry)) (now (line .entry)) (now (staging .entry)) (now (store .entry)))) ⌝ }
+    ensures { λ r. ⌜ ((p : Printer) → r
+        ≡ fit lp2 form (now (font .entry)) (machine p (now (page .entry)) (now (line .entry)) (now (staging .entry)) (now (store .entry)))) ⌝ }
 {
     if page.len() != page_bytes(form) {
         return Fit::Wrong(Lent::Page);

@@ -1,2 +1,6 @@
--- What the terminators rest on.
+-- What the terminators and the entering of columns rest on.
+pub mod Entered
+pub mod Guarded
 pub mod Rooms
+pub mod Struck
+pub mod TabsBelow

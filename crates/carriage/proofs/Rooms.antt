@@ -7,6 +7,7 @@ use native.Mathlib.Nat.{mul-le-mul-right}
 use native.Mathlib.Omega.{arith}
 use borrow.Author.Tests.{leb-true}
 use lib.ListN.{length}
+use Rattle.sheet.specs.declared.Line.{Line}
 use Rattle.sheet.specs.Edition.{lp2}
 use Rattle.sheet.specs.Form.{fits, form-rows, line-of, page-bytes}
 use Rattle.sheet.proofs.Units.{form-rows-most, line-inside}
@@ -23,5 +24,5 @@ module _ {p : Printer} {page line : List ℕ} (h : Strikable p page line) (q : f
   unfolding fits
   row-bound = let k : p .head .row .0 + 9 ≤ form-rows (p .form) = leb-true _ _ q in omega (arith, form-rows-most (p .form) (h .lines))
 
-  pub line-bound : line-of (p .form) (p .head .row) .0 ≤ 99
-  line-bound = omega (arith, line-inside (p .form) (p .head .row) q, h .lines)
+  pub line-bound : {n : Line} → n ≡ line-of (p .form) (p .head .row) → n .0 ≤ 99
+  line-bound e = rw e (omega (arith, line-inside (p .form) (p .head .row) q, h .lines))

@@ -19,7 +19,8 @@ use state::parts::quiet;
 // A plotted column.
 fn plot(p: Printer, v: u8, place: u32, line: &mut [u16]) -> Stepped
     requires { ⌜ length (now line) ≡ 2200 ⌝ }
-    ensures { λ r. ⌜ ((page staging store : List ℕ) → given r page (now (line .exit)) staging store ≡ plot lp2 v place (machine p page (now (line .entry)) staging store)) ⌝ }
+    ensures { λ r. ⌜ ((page staging store : List ℕ)
+        → given r page (now (line .exit)) staging store ≡ plot lp2 v place (machine p page (now (line .entry)) staging store)) ⌝ }
 {
     let style = p.style;
     let pitch = style.pitch;
@@ -35,7 +36,8 @@ fn plot(p: Printer, v: u8, place: u32, line: &mut [u16]) -> Stepped
 // A byte by itself, other than 1B.
 pub fn plot_byte(p: Printer, b: u8, place: u32, line: &mut [u16]) -> Stepped
     requires { ⌜ length (now line) ≡ 2200 ⌝ }
-    ensures { λ r. ⌜ ((page staging store : List ℕ) → given r page (now (line .exit)) staging store ≡ plot-byte lp2 b place (machine p page (now (line .entry)) staging store)) ⌝ }
+    ensures { λ r. ⌜ ((page staging store : List ℕ)
+        → given r page (now (line .exit)) staging store ≡ plot-byte lp2 b place (machine p page (now (line .entry)) staging store)) ⌝ }
 {
     if b < 0x80 {
         plot(p, b, place, line)
@@ -47,7 +49,8 @@ pub fn plot_byte(p: Printer, b: u8, place: u32, line: &mut [u16]) -> Stepped
 // ESC and a byte.
 pub fn plot_escape(p: Printer, b: u8, place: u32, line: &mut [u16]) -> Stepped
     requires { ⌜ length (now line) ≡ 2200 ⌝ }
-    ensures { λ r. ⌜ ((page staging store : List ℕ) → given r page (now (line .exit)) staging store ≡ plot-escape lp2 b place (machine p page (now (line .entry)) staging store)) ⌝ }
+    ensures { λ r. ⌜ ((page staging store : List ℕ)
+        → given r page (now (line .exit)) staging store ≡ plot-escape lp2 b place (machine p page (now (line .entry)) staging store)) ⌝ }
 {
     match b {
         0x1b => plot(p, 0x1b, place, line),

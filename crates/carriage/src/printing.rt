@@ -23,7 +23,8 @@ use state::parts::quiet;
 // Enters a character in a style, its glyph from the download store or from the resident font.
 fn draw(line: &mut [u16], store: &[u8], font: &[u8], style: Style, b: u8, at: usize)
     requires { ⌜ (at + cell (style .elongated) ≤ length (now line)) × (length (now store) ≡ 2048) × (length (now font) ≡ 2048) × (b < 128) ⌝ }
-    ensures { λ _. ⌜ now (line .exit) ≡ enter (cond (style .downloaded) (now (store .entry)) (now (font .entry))) b (style .elongated) (style .underscore) at (now (line .entry)) ⌝ }
+    ensures { λ _. ⌜ now (line .exit)
+        ≡ enter (cond (style .downloaded) (now (store .entry)) (now (font .entry))) b (style .elongated) (style .underscore) at (now (line .entry)) ⌝ }
 {
     let n = b as usize;
     if style.downloaded {
@@ -36,7 +37,9 @@ fn draw(line: &mut [u16], store: &[u8], font: &[u8], style: Style, b: u8, at: us
 // A character.
 pub fn print(p: Printer, b: u8, place: u32, line: &mut [u16], store: &[u8], font: &[u8]) -> Stepped
     requires { ⌜ Writable p (now line) (now store) (now font) × (b < 128) ⌝ }
-    ensures { λ r. ⌜ ((page staging : List ℕ) → given r page (now (line .exit)) staging (now (store .entry)) ≡ print lp2 (now (font .entry)) b place (machine p page (now (line .entry)) staging (now (store .entry)))) ⌝ }
+    ensures { λ r. ⌜ ((page staging : List ℕ)
+        → given r page (now (line .exit)) staging (now (store .entry))
+        ≡ print lp2 (now (font .entry)) b place (machine p page (now (line .entry)) staging (now (store .entry)))) ⌝ }
 {
     if p.head.plotted {
         return noted(p, Fault::PlotLine, place);

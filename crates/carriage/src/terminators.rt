@@ -31,7 +31,9 @@ use striking::strike;
 // Strikes the line in progress at the current row; the head goes to a fresh line at row `next`.
 fn line_done(p: Printer, next: Row, page: &mut [u8], line: &mut [u16]) -> Stepped
     requires { ⌜ ((p .head .row .0 + 9) * 825 ≤ length (now page)) × (length (now line) ≡ 2200) ⌝ }
-    ensures { λ r. ⌜ ((staging store : List ℕ) → given r (now (page .exit)) (now (line .exit)) staging store ≡ quiet (strike lp2 next (machine p (now (page .entry)) (now (line .entry)) staging store))) ⌝ }
+    ensures { λ r. ⌜ ((staging store : List ℕ)
+        → given r (now (page .exit)) (now (line .exit)) staging store
+        ≡ quiet (strike lp2 next (machine p (now (page .entry)) (now (line .entry)) staging store))) ⌝ }
 {
     let row = p.head.row;
     let style = p.style;
@@ -43,7 +45,9 @@ fn line_done(p: Printer, next: Row, page: &mut [u8], line: &mut [u16]) -> Steppe
 // The same, and with it the form is finished: row `next` is on the form that follows.
 fn form_done(p: Printer, next: Row, page: &mut [u8], line: &mut [u16]) -> Stepped
     requires { ⌜ ((p .head .row .0 + 9) * 825 ≤ length (now page)) × (length (now line) ≡ 2200) ⌝ }
-    ensures { λ r. ⌜ ((staging store : List ℕ) → given r (now (page .exit)) (now (line .exit)) staging store ≡ finished (strike lp2 next (machine p (now (page .entry)) (now (line .entry)) staging store))) ⌝ }
+    ensures { λ r. ⌜ ((staging store : List ℕ)
+        → given r (now (page .exit)) (now (line .exit)) staging store
+        ≡ finished (strike lp2 next (machine p (now (page .entry)) (now (line .entry)) staging store))) ⌝ }
 {
     let row = p.head.row;
     let style = p.style;
@@ -67,7 +71,8 @@ fn advance(p: Printer) -> usize
 // 0A.
 pub fn newline(p: Printer, page: &mut [u8], line: &mut [u16]) -> Stepped
     requires { ⌜ Strikable p (now page) (now line) ⌝ }
-    ensures { λ r. ⌜ ((staging store : List ℕ) → given r (now (page .exit)) (now (line .exit)) staging store ≡ newline lp2 (machine p (now (page .entry)) (now (line .entry)) staging store)) ⌝ }
+    ensures { λ r. ⌜ ((staging store : List ℕ)
+        → given r (now (page .exit)) (now (line .exit)) staging store ≡ newline lp2 (machine p (now (page .entry)) (now (line .entry)) staging store)) ⌝ }
 {
     let form = p.form;
     let row = p.head.row;
@@ -85,7 +90,8 @@ pub fn newline(p: Printer, page: &mut [u8], line: &mut [u16]) -> Stepped
 // 0C.
 pub fn form_feed(p: Printer, page: &mut [u8], line: &mut [u16]) -> Stepped
     requires { ⌜ Strikable p (now page) (now line) ⌝ }
-    ensures { λ r. ⌜ ((staging store : List ℕ) → given r (now (page .exit)) (now (line .exit)) staging store ≡ form-feed lp2 (machine p (now (page .entry)) (now (line .entry)) staging store)) ⌝ }
+    ensures { λ r. ⌜ ((staging store : List ℕ)
+        → given r (now (page .exit)) (now (line .exit)) staging store ≡ form-feed lp2 (machine p (now (page .entry)) (now (line .entry)) staging store)) ⌝ }
 {
     let form = p.form;
     let row = p.head.row;
@@ -99,7 +105,9 @@ pub fn form_feed(p: Printer, page: &mut [u8], line: &mut [u16]) -> Stepped
 // 0D.
 pub fn carriage_return(p: Printer, page: &mut [u8], line: &mut [u16]) -> Stepped
     requires { ⌜ Strikable p (now page) (now line) ⌝ }
-    ensures { λ r. ⌜ ((staging store : List ℕ) → given r (now (page .exit)) (now (line .exit)) staging store ≡ carriage-return lp2 (machine p (now (page .entry)) (now (line .entry)) staging store)) ⌝ }
+    ensures { λ r. ⌜ ((staging store : List ℕ)
+        → given r (now (page .exit)) (now (line .exit)) staging store
+        ≡ carriage-return lp2 (machine p (now (page .entry)) (now (line .entry)) staging store)) ⌝ }
 {
     let form = p.form;
     let row = p.head.row;
@@ -129,7 +137,9 @@ fn first_tab(p: Printer, above: usize) -> NextTab
 // To the tabbed line below, to the lowest-numbered on the next form, or nowhere.
 fn tab_to(p: Printer, below: NextTab, lowest: NextTab, page: &mut [u8], line: &mut [u16]) -> Stepped
     requires { ⌜ ((p .head .row .0 + 9) * 825 ≤ length (now page)) × (length (now line) ≡ 2200) × Kept below × Kept lowest ⌝ }
-    ensures { λ r. ⌜ ((staging store : List ℕ) → given r (now (page .exit)) (now (line .exit)) staging store ≡ tab-to lp2 below lowest (machine p (now (page .entry)) (now (line .entry)) staging store)) ⌝ }
+    ensures { λ r. ⌜ ((staging store : List ℕ)
+        → given r (now (page .exit)) (now (line .exit)) staging store
+        ≡ tab-to lp2 below lowest (machine p (now (page .entry)) (now (line .entry)) staging store)) ⌝ }
 {
     let form = p.form;
     match below {
@@ -147,7 +157,8 @@ fn tab_to(p: Printer, below: NextTab, lowest: NextTab, page: &mut [u8], line: &m
 // 0B.
 pub fn vertical_tab(p: Printer, page: &mut [u8], line: &mut [u16]) -> Stepped
     requires { ⌜ Strikable p (now page) (now line) ⌝ }
-    ensures { λ r. ⌜ ((staging store : List ℕ) → given r (now (page .exit)) (now (line .exit)) staging store ≡ vertical-tab lp2 (machine p (now (page .entry)) (now (line .entry)) staging store)) ⌝ }
+    ensures { λ r. ⌜ ((staging store : List ℕ)
+        → given r (now (page .exit)) (now (line .exit)) staging store ≡ vertical-tab lp2 (machine p (now (page .entry)) (now (line .entry)) staging store)) ⌝ }
 {
     let form = p.form;
     let row = p.head.row;

@@ -1,2 +1,4 @@
--- What downloads rest on.
+-- What downloads and the reset rest on.
 pub mod Copying
+pub mod Downloaded
+pub mod Resetting

@@ -89,7 +89,8 @@ fn download(
     store: &mut [u8],
 ) -> Stepped
     requires { ⌜ (length (now staging) ≡ 2048) × (length (now store) ≡ 2048) ⌝ }
-    ensures { λ r. ⌜ ((page line : List ℕ) → given r page line (now (staging .entry)) (now (store .exit)) ≡ download (l .count) (l .address) (l .sum) checksum place (machine p page line (now (staging .entry)) (now (store .entry)))) ⌝ }
+    ensures { λ r. ⌜ ((page line : List ℕ) → given r page line (now (staging .entry)) (now (store .exit))
+        ≡ download (l .count) (l .address) (l .sum) checksum place (machine p page line (now (staging .entry)) (now (store .entry)))) ⌝ }
 {
     if std::num::wrapping_add_u8(l.sum, checksum) != 0 {
         return noted(p, Fault::Checksum, place);
@@ -116,7 +117,8 @@ pub fn payload_byte(
     store: &mut [u8],
 ) -> Stepped
     requires { ⌜ (length (now staging) ≡ 2048) × (length (now store) ≡ 2048) ⌝ }
-    ensures { λ r. ⌜ ((page line : List ℕ) → given r page line (now (staging .exit)) (now (store .exit)) ≡ payload-byte l b place (machine p page line (now (staging .entry)) (now (store .entry)))) ⌝ }
+    ensures { λ r. ⌜ ((page line : List ℕ) → given r page line (now (staging .exit)) (now (store .exit))
+        ≡ payload-byte l b place (machine p page line (now (staging .entry)) (now (store .entry)))) ⌝ }
 {
     if l.taken < l.count {
         let k = l.taken;

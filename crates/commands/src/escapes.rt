@@ -80,7 +80,8 @@ fn in_turn(p: Printer, after: Printer, place: u32) -> Stepped
 // ESC c and a byte.
 pub fn reset(p: Printer, b: u8, place: u32, line: &mut [u16], store: &mut [u8]) -> Stepped
     requires { ⌜ (length (now line) ≡ 2200) × (length (now store) ≡ 2048) ⌝ }
-    ensures { λ r. ⌜ ((page staging : List ℕ) → given r page (now (line .exit)) staging (now (store .exit)) ≡ reset lp2 b place (machine p page (now (line .entry)) staging (now (store .entry)))) ⌝ }
+    ensures { λ r. ⌜ ((page staging : List ℕ) → given r page (now (line .exit)) staging (now (store .exit))
+        ≡ reset lp2 b place (machine p page (now (line .entry)) staging (now (store .entry)))) ⌝ }
 {
     if b != 0 {
         return noted(p, Fault::WrongBytes, place);

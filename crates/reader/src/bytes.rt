@@ -57,7 +57,8 @@ fn text_byte(
     font: &[u8],
 ) -> Stepped
     requires { ⌜ Strikable p (now page) (now line) × Writable p (now line) (now store) (now font) ⌝ }
-    ensures { λ r. ⌜ ((staging : List ℕ) → given r (now (page .exit)) (now (line .exit)) staging (now (store .entry)) ≡ text-byte lp2 (now (font .entry)) b place (machine p (now (page .entry)) (now (line .entry)) staging (now (store .entry)))) ⌝ }
+    ensures { λ r. ⌜ ((staging : List ℕ) → given r (now (page .exit)) (now (line .exit)) staging (now (store .entry))
+        ≡ text-byte lp2 (now (font .entry)) b place (machine p (now (page .entry)) (now (line .entry)) staging (now (store .entry)))) ⌝ }
 {
     match b {
         0x20..=0x7e => print(p, b, place, line, store, font),
@@ -82,7 +83,8 @@ fn alone(
     font: &[u8],
 ) -> Stepped
     requires { ⌜ Strikable p (now page) (now line) × Writable p (now line) (now store) (now font) ⌝ }
-    ensures { λ r. ⌜ ((staging : List ℕ) → given r (now (page .exit)) (now (line .exit)) staging (now (store .entry)) ≡ alone lp2 (now (font .entry)) b place (machine p (now (page .entry)) (now (line .entry)) staging (now (store .entry)))) ⌝ }
+    ensures { λ r. ⌜ ((staging : List ℕ) → given r (now (page .exit)) (now (line .exit)) staging (now (store .entry))
+        ≡ alone lp2 (now (font .entry)) b place (machine p (now (page .entry)) (now (line .entry)) staging (now (store .entry)))) ⌝ }
 {
     if p.head.plotting {
         plot_byte(p, b, place, line)
@@ -102,7 +104,8 @@ fn first_byte(
     font: &[u8],
 ) -> Stepped
     requires { ⌜ Strikable p (now page) (now line) × Writable p (now line) (now store) (now font) ⌝ }
-    ensures { λ r. ⌜ ((staging : List ℕ) → given r (now (page .exit)) (now (line .exit)) staging (now (store .entry)) ≡ first-byte lp2 (now (font .entry)) b place (machine p (now (page .entry)) (now (line .entry)) staging (now (store .entry)))) ⌝ }
+    ensures { λ r. ⌜ ((staging : List ℕ) → given r (now (page .exit)) (now (line .exit)) staging (now (store .entry))
+        ≡ first-byte lp2 (now (font .entry)) b place (machine p (now (page .entry)) (now (line .entry)) staging (now (store .entry)))) ⌝ }
 {
     if b == 0x1b {
         waiting(p, Pending::Escape(place))
@@ -127,7 +130,8 @@ fn text_escape(p: Printer, b: u8, place: u32) -> Stepped
 // The byte after ESC.
 fn second_byte(p: Printer, b: u8, place: u32, line: &mut [u16]) -> Stepped
     requires { ⌜ length (now line) ≡ 2200 ⌝ }
-    ensures { λ r. ⌜ ((page staging store : List ℕ) → given r page (now (line .exit)) staging store ≡ second-byte lp2 b place (machine p page (now (line .entry)) staging store)) ⌝ }
+    ensures { λ r. ⌜ ((page staging store : List ℕ) → given r page (now (line .exit)) staging store
+        ≡ second-byte lp2 b place (machine p page (now (line .entry)) staging store)) ⌝ }
 {
     if p.head.plotting {
         plot_escape(with_pending(p, Pending::Nothing), b, place, line)
@@ -160,7 +164,8 @@ fn act(
     font: &[u8],
 ) -> Stepped
     requires { ⌜ Room p (now page) (now line) (now staging) (now store) (now font) ⌝ }
-    ensures { λ r. ⌜ given r (now (page .exit)) (now (line .exit)) (now (staging .exit)) (now (store .exit)) ≡ act lp2 (now (font .entry)) pending b here (machine p (now (page .entry)) (now (line .entry)) (now (staging .entry)) (now (store .entry))) ⌝ }
+    ensures { λ r. ⌜ given r (now (page .exit)) (now (line .exit)) (now (staging .exit)) (now (store .exit))
+        ≡ act lp2 (now (font .entry)) pending b here (machine p (now (page .entry)) (now (line .entry)) (now (staging .entry)) (now (store .entry))) ⌝ }
 {
     match pending {
         Pending::Nothing => first_byte(p, b, here, page, line, store, font),
@@ -200,7 +205,8 @@ pub fn step(
     font: &[u8],
 ) -> Stepped
     requires { ⌜ Room p (now page) (now line) (now staging) (now store) (now font) × (p .job < 4294967295) ⌝ }
-    ensures { λ r. ⌜ given r (now (page .exit)) (now (line .exit)) (now (staging .exit)) (now (store .exit)) ≡ step lp2 (now (font .entry)) b (machine p (now (page .entry)) (now (line .entry)) (now (staging .entry)) (now (store .entry))) ⌝ }
+    ensures { λ r. ⌜ given r (now (page .exit)) (now (line .exit)) (now (staging .exit)) (now (store .exit))
+        ≡ step lp2 (now (font .entry)) b (machine p (now (page .entry)) (now (line .entry)) (now (staging .entry)) (now (store .entry))) ⌝ }
 {
     let pending = p.pending;
     let here = p.job;

@@ -19,9 +19,11 @@ module _ (place : ℕ) (p : Printer) (font piece page line store : List ℕ) whe
   abbrev at-work : Load → ℕ → List ℕ → Machine
   at-work l job staging = machine (loading place l job p) page line staging store
 
-  pub begins : (l : Load) (staging : List ℕ) → p .pending ≡ Payload place l → Leads font piece 0 (machine p page line staging store) (at-work l (p .job) staging)
+  pub begins : (l : Load) (staging : List ℕ) → p .pending ≡ Payload place l
+      → Leads font piece 0 (machine p page line staging store) (at-work l (p .job) staging)
   begins l staging q =
-      let with : Pending → Machine = λ x. machine (record { form = p .form; job = p .job; pending = x; head = p .head; style = p .style; tabs = p .tabs }) page line staging store in
+      let with : Pending → Machine =
+      λ x. machine (record { form = p .form; job = p .job; pending = x; head = p .head; style = p .style; tabs = p .tabs }) page line staging store in
       subst (λ (m : Machine). Leads font piece 0 (machine p page line staging store) m) (ap with q) (leads-nowhere font piece _)
 
   -- one payload byte more

@@ -43,7 +43,8 @@ pub fn payload_run(
 ) -> Ran
     requires { ⌜ (p .pending ≡ Payload place load) × (n ≤ length (now piece)) × (p .job + n ≤ 4294967295) ⌝ }
     ensures { λ r. ⌜ ((font page line store : List ℕ)
-        → Leads font (now (piece .entry)) (r .taken) (machine p page line (now (staging .entry)) store) (machine (r .printer) page line (now (staging .exit)) store)) ⌝ }
+        → Leads font (now (piece .entry)) (r .taken) (machine p page line (now (staging .entry)) store)
+        (machine (r .printer) page line (now (staging .exit)) store)) ⌝ }
 {
     let mut l = load;
     let mut job = p.job;

@@ -37,7 +37,8 @@ fn wires(b: u8) -> u16
 pub fn plot_run(p: Printer, piece: &[u8], n: usize, line: &mut [u16]) -> Ran
     requires { ⌜ Plotting p × (p .head .column ≤ 2200) × (length (now line) ≡ 2200) × (n ≤ length (now piece)) × (p .job + n ≤ 4294967295) ⌝ }
     ensures { λ r. ⌜ ((font page staging store : List ℕ)
-        → Leads font (now (piece .entry)) (r .taken) (machine p page (now (line .entry)) staging store) (machine (r .printer) page (now (line .exit)) staging store)) ⌝ }
+        → Leads font (now (piece .entry)) (r .taken) (machine p page (now (line .entry)) staging store)
+        (machine (r .printer) page (now (line .exit)) staging store)) ⌝ }
 {
     let style = p.style;
     let pitch = style.pitch;

@@ -47,7 +47,8 @@ fn fitting(job: u32, piece: &[u8]) -> usize
 fn plain_run(p: Printer, piece: &[u8], n: usize, line: &mut [u16], store: &[u8], font: &[u8]) -> Ran
     requires { ⌜ (p .pending ≡ Nothing) × Writable p (now line) (now store) (now font) × (n ≤ length (now piece)) × (p .job + n ≤ 4294967295) ⌝ }
     ensures { λ r. ⌜ ((page staging : List ℕ)
-        → Leads (now (font .entry)) (now (piece .entry)) (r .taken) (machine p page (now (line .entry)) staging (now (store .entry))) (machine (r .printer) page (now (line .exit)) staging (now (store .entry)))) ⌝ }
+        → Leads (now (font .entry)) (now (piece .entry)) (r .taken) (machine p page (now (line .entry)) staging (now (store .entry)))
+        (machine (r .printer) page (now (line .exit)) staging (now (store .entry)))) ⌝ }
 {
     if p.head.plotting {
         return plot_run(p, piece, n, line);
@@ -69,7 +70,8 @@ pub fn run(
 ) -> Ran
     requires { ⌜ Writable p (now line) (now store) (now font) ⌝ }
     ensures { λ r. ⌜ ((page : List ℕ)
-        → Leads (now (font .entry)) (now (piece .entry)) (r .taken) (machine p page (now (line .entry)) (now (staging .entry)) (now (store .entry))) (machine (r .printer) page (now (line .exit)) (now (staging .exit)) (now (store .entry)))) ⌝ }
+        → Leads (now (font .entry)) (now (piece .entry)) (r .taken) (machine p page (now (line .entry)) (now (staging .entry)) (now (store .entry)))
+        (machine (r .printer) page (now (line .exit)) (now (staging .exit)) (now (store .entry)))) ⌝ }
 {
     let n = fitting(p.job, piece);
     let pending = p.pending;

@@ -37,9 +37,11 @@ fn code(b: u8) -> usize
 
 // Enters characters from the glyphs given, for as many of the first n bytes of a piece as print and fit the line.
 fn characters(p: Printer, piece: &[u8], n: usize, line: &mut [u16], glyphs: &[u8]) -> Ran
-    requires { ⌜ Typing p × (p .head .column ≤ 2200) × (length (now line) ≡ 2200) × (length (now glyphs) ≡ 2048) × (n ≤ length (now piece)) × (p .job + n ≤ 4294967295) ⌝ }
+    requires { ⌜ Typing p × (p .head .column ≤ 2200) × (length (now line) ≡ 2200) × (length (now glyphs) ≡ 2048)
+        × (n ≤ length (now piece)) × (p .job + n ≤ 4294967295) ⌝ }
     ensures { λ r. ⌜ ((page staging store font : List ℕ) → cond (p .style .downloaded) store font ≡ now (glyphs .entry)
-        → Leads font (now (piece .entry)) (r .taken) (machine p page (now (line .entry)) staging store) (machine (r .printer) page (now (line .exit)) staging store)) ⌝ }
+        → Leads font (now (piece .entry)) (r .taken) (machine p page (now (line .entry)) staging store)
+        (machine (r .printer) page (now (line .exit)) staging store)) ⌝ }
 {
     let style = p.style;
     let pitch = style.pitch;
@@ -80,7 +82,8 @@ pub fn text_run(
 ) -> Ran
     requires { ⌜ Typing p × Writable p (now line) (now store) (now font) × (n ≤ length (now piece)) × (p .job + n ≤ 4294967295) ⌝ }
     ensures { λ r. ⌜ ((page staging : List ℕ)
-        → Leads (now (font .entry)) (now (piece .entry)) (r .taken) (machine p page (now (line .entry)) staging (now (store .entry))) (machine (r .printer) page (now (line .exit)) staging (now (store .entry)))) ⌝ }
+        → Leads (now (font .entry)) (now (piece .entry)) (r .taken) (machine p page (now (line .entry)) staging (now (store .entry)))
+        (machine (r .printer) page (now (line .exit)) staging (now (store .entry)))) ⌝ }
 {
     if p.style.downloaded {
         characters(p, piece, n, line, store)

@@ -1,4 +1,4 @@
--- `answer_to` meets its contract.
+-- `answer_to`: each event has its answer, told by the definition's own arms.
 use borrow.Author.Needs.{needs}
 use Rattle.answers.proofs.answer_to.Statement.{statement}
 use Rattle.answers.proofs.answer_to.Tie as tie

@@ -1,4 +1,4 @@
--- `new_printer` meets its contract.
+-- `new_printer`: a new printer has no tabs, which are two words of 0.
 use borrow.Author.Needs.{needs}
 use Rattle.printer.specs.Tabs.{no-tabs}
 use Rattle.answers.proofs.new_printer.Statement.{statement}

@@ -1,4 +1,4 @@
--- `unopened` meets its contract.
+-- `unopened`: the shut state is that of a new printer.
 use borrow.Author.Needs.{needs}
 use Rattle.answers.proofs.unopened.Statement.{statement}
 use Rattle.answers.proofs.unopened.Tie as tie

@@ -1,16 +1,16 @@
--- `plotting::plot_byte` meets its contract.
+-- `plotting::plot_byte`: a byte below 80 is a column; another is a note and changes nothing.
 mod Places
 use borrow.Author.Needs.{needs}
-use mathlib.Core.Path.{_∙_}
 use borrow.Author.Tests.{le-ltb, lt-ltb}
 use Rattle.printer.specs.Plotting.{plot-byte}
+use Rattle.state.proofs.Tests.{when}
 use Rattle.carriage.proofs.plotting.plot_byte.Statement.{statement}
 use Rattle.carriage.proofs.plotting.plot_byte.Tie as tie
 use Places.*
 
 returns : tie.Need-returns
 unfolding plot-byte
-returns c page staging store = c .before .before .plot .ensures page staging store ∙ simp (lt-ltb _ _ (then1-at-returns c .if1 .taken))
+returns c page staging store = when _ (lt-ltb _ _ (then1-at-returns c .if1 .taken)) (c .before .before .plot .ensures page staging store)
 
 returns-2 : tie.Need-returns-2
 unfolding plot-byte

@@ -1,16 +1,16 @@
--- `plotting::plot_escape` meets its contract.
+-- `plotting::plot_escape`: the arms are the definition's tests in its order.
 mod Places
 use borrow.Author.Needs.{needs}
-use mathlib.Core.Path.{_∙_}
-use borrow.Author.Tests.{ne-eqb}
+use borrow.Author.Tests.{eq-eqb, ne-eqb}
 use Rattle.printer.specs.Plotting.{plot-escape}
+use Rattle.state.proofs.Tests.{when}
 use Rattle.carriage.proofs.plotting.plot_escape.Statement.{statement}
 use Rattle.carriage.proofs.plotting.plot_escape.Tie as tie
 use Places.*
 
 returns : tie.Need-returns
 unfolding plot-escape
-returns c page staging store = c .before .before .plot .ensures page staging store ∙ simp (match-keys1-at-returns c .match .keys1)
+returns c page staging store = when _ (eq-eqb _ _ (match-keys1-at-returns c .match .keys1)) (c .before .before .plot .ensures page staging store)
 
 returns-2 : tie.Need-returns-2
 unfolding plot-escape

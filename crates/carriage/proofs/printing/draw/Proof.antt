@@ -1,4 +1,4 @@
--- `printing::draw` meets its contract.
+-- `printing::draw`: the glyph comes from the store or the font, as the definition's choice says; both arms enter it alike.
 mod Places
 use borrow.Author.Needs.{needs}
 use Rattle.carriage.proofs.printing.draw.Statement.{statement}

@@ -1,4 +1,4 @@
--- `terminators::advance` meets its contract.
+-- `terminators::advance`: seven rows on a plot line, else the spacing's, which are twelve at most.
 use borrow.Author.Needs.{needs}
 use native.Mathlib.Omega.{arith}
 use Rattle.sheet.proofs.Units.{twelve-rows}

@@ -1,15 +1,16 @@
--- `terminators::form_done` meets its contract.
+-- `terminators::form_done`: the strike inks the page and empties the line, `fresh` moves the head: together the definition's strike.
 mod Places
 use borrow.Author.Needs.{needs}
-use Rattle.printer.specs.Terminators.{strike}
+use Rattle.printer.specs.Given.{machine}
+use Rattle.carriage.proofs.Struck.{done}
 use Rattle.carriage.proofs.terminators.form_done.Statement.{statement}
 use Rattle.carriage.proofs.terminators.form_done.Tie as tie
 use Places.*
 
 returns : tie.Need-returns
-unfolding strike
 returns c staging store =
-    simp (c .finished .ensures, c .before .fresh .ensures, strike-at-returns c .strike .ensures .0, strike-at-returns c .strike .ensures .1)
+    let a = start-at-returns c .args in let s = strike-at-returns c .strike in
+    done (machine (a .p) (a .page .now) (a .line .now) staging store) (c .finished .ensures) (c .before .fresh .ensures) (s .ensures .0) (s .ensures .1)
 
 pub form-done-spec : {M : Type 1} → statement M
 form-done-spec =

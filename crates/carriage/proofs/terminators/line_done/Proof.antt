@@ -1,14 +1,16 @@
--- `terminators::line_done` meets its contract.
+-- `terminators::line_done`: the strike inks the page and empties the line, `fresh` moves the head: together the definition's strike.
 mod Places
 use borrow.Author.Needs.{needs}
-use Rattle.printer.specs.Terminators.{strike}
+use Rattle.printer.specs.Given.{machine}
+use Rattle.carriage.proofs.Struck.{done}
 use Rattle.carriage.proofs.terminators.line_done.Statement.{statement}
 use Rattle.carriage.proofs.terminators.line_done.Tie as tie
 use Places.*
 
 returns : tie.Need-returns
-unfolding strike
-returns c staging store = simp (c .quiet .ensures, c .before .fresh .ensures, strike-at-returns c .strike .ensures .0, strike-at-returns c .strike .ensures .1)
+returns c staging store =
+    let a = start-at-returns c .args in let s = strike-at-returns c .strike in
+    done (machine (a .p) (a .page .now) (a .line .now) staging store) (c .quiet .ensures) (c .before .fresh .ensures) (s .ensures .0) (s .ensures .1)
 
 pub line-done-spec : {M : Type 1} → statement M
 line-done-spec =

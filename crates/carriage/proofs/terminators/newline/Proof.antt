@@ -1,72 +1,49 @@
--- `terminators::newline` meets its contract.
+-- `terminators::newline`: the line is struck if the guard lets it; the next line is on the form or on the one that follows, as its nine rows fit or not.
 mod Places
 use borrow.Author.Needs.{needs}
-use Prim.Native.Nat.{ℕ}
-use mathlib.Core.Bool.{cond, false, true}
-use mathlib.Core.Path.{_≡_, ap, sym, _∙_}
-use borrow.Author.Tests.{not-false, not-true}
-use Rattle.sheet.specs.declared.Row.{Row}
-use Rattle.sheet.specs.Edition.{lp2}
-use Rattle.sheet.specs.Form.{fits, lower, rows-per-line}
-use Rattle.printer.specs.Terminators.{guarded, newline, strike}
-use Rattle.printer.specs.Steps.{quiet}
+use mathlib.Core.Bool.{true}
+use mathlib.Core.Path.{_≡_, sym, _∙_}
+use Rattle.sheet.specs.Form.{fits}
+use Rattle.printer.specs.Terminators.{newline}
 use Rattle.printer.specs.Given.{machine}
+use Rattle.state.proofs.Tests.{failed, passed}
+use Rattle.carriage.proofs.Guarded.{stopped}
 use Rattle.carriage.proofs.Rooms.{row-bound, rows-on-page}
+use Rattle.carriage.proofs.Struck.{form-over, line-down}
 use Rattle.carriage.proofs.terminators.newline.Statement.{statement}
 use Rattle.carriage.proofs.terminators.newline.Tie as tie
 use Places.*
 
+-- the guard lets it
+fit : (c : tie.Else1) → fits (start-at-else1 c .args .p .form) (start-at-else1 c .args .p .head .row) ≡ true
+fit c = passed (c .before .fits2 .ensures) (c .if1 .left)
+
 returns : tie.Need-returns
-unfolding newline guarded
-returns c staging store = simp (c .guard .ensures, ← c .before .before .fits2 .ensures, not-true (c .before .before .fits2 .result) (c .before .if1 .taken))
+unfolding newline
+returns c staging store = stopped _ _ (failed (c .before .before .fits2 .ensures) (c .before .if1 .taken)) (c .guard .ensures)
 
 lower-requires : tie.Need-lower-requires
-lower-requires c κs = (
-  row-bound (start-at-lower-requires c .pre)
-      (sym (c .before .before .fits2 .ensures) ∙ not-false (c .before .before .fits2 .result) (c .before .if1 .left)),
-  c .advance .ensures .1,
-)
+lower-requires c κs = (row-bound (start-at-lower-requires c .pre) (fit (c .before)), c .advance .ensures .1)
 
 line-done-requires : tie.Need-line-done-requires
-line-done-requires c κs =
-    rows-on-page (start-at-line-done-requires c .pre)
-    (sym (fits2-at-line-done-requires c .fits2 .ensures)
-    ∙ not-false (fits2-at-line-done-requires c .fits2 .result) (else1-at-line-done-requires c .if1 .left))
+line-done-requires c κs = rows-on-page (start-at-line-done-requires c .pre) (fit (else1-at-line-done-requires c))
 
 form-done-requires : tie.Need-form-done-requires
-form-done-requires c κs =
-    rows-on-page (start-at-form-done-requires c .pre)
-    (sym (fits2-at-form-done-requires c .fits2 .ensures)
-    ∙ not-false (fits2-at-form-done-requires c .fits2 .result) (else1-at-form-done-requires c .if1 .left))
+form-done-requires c κs = rows-on-page (start-at-form-done-requires c .pre) (fit (else1-at-form-done-requires c))
 
 returns-2 : tie.Need-returns-2
-unfolding newline guarded
 returns-2 c staging store =
     let a = start-at-returns-2 c .args in
-    let next : lower-at-returns-2 c .lower .result ≡ lower (cond (a .p .head .plotted) 7 (rows-per-line (a .p .form .spacing))) (a .p .head .row) =
-    lower-at-returns-2 c .lower .ensures ∙ ap (λ (n : ℕ). lower n (a .p .head .row)) (advance-at-returns-2 c .advance .ensures .0) in
-    let fit : fits (a .p .form) (lower (cond (a .p .head .plotted) 7 (rows-per-line (a .p .form .spacing))) (a .p .head .row)) ≡ true =
-    ap (fits (a .p .form)) (sym next) ∙ sym (fits3-at-returns-2 c .fits3 .ensures) ∙ then2-at-returns-2 c .if2 .taken in
-    simp (
-      sym (fits2-at-returns-2 c .fits2 .ensures) ∙ not-false (fits2-at-returns-2 c .fits2 .result) (else1-at-returns-2 c .if1 .left),
-      fit,
-    )
-    (line-done-at-returns-2 c .line-done .ensures staging store
-    ∙ ap (λ (r : Row). quiet (strike lp2 r (machine (a .p) (a .page .now) (a .line .now) staging store))) next)
+    line-down (machine (a .p) (a .page .now) (a .line .now) staging store) (fit (else1-at-returns-2 c)) (advance-at-returns-2 c .advance .ensures .0)
+    (lower-at-returns-2 c .lower .ensures) (line-done-at-returns-2 c .line-done .ensures staging store)
+    (sym (fits3-at-returns-2 c .fits3 .ensures) ∙ then2-at-returns-2 c .if2 .taken)
 
 returns-3 : tie.Need-returns-3
-unfolding newline guarded
 returns-3 c staging store =
     let a = start-at-returns-3 c .args in
-    let next : lower-at-returns-3 c .lower .result ≡ lower (cond (a .p .head .plotted) 7 (rows-per-line (a .p .form .spacing))) (a .p .head .row) =
-    lower-at-returns-3 c .lower .ensures ∙ ap (λ (n : ℕ). lower n (a .p .head .row)) (advance-at-returns-3 c .advance .ensures .0) in
-    let fit : fits (a .p .form) (lower (cond (a .p .head .plotted) 7 (rows-per-line (a .p .form .spacing))) (a .p .head .row)) ≡ false =
-    ap (fits (a .p .form)) (sym next) ∙ sym (fits3-at-returns-3 c .fits3 .ensures) ∙ else2-at-returns-3 c .if2 .left in
-    simp (
-      sym (fits2-at-returns-3 c .fits2 .ensures) ∙ not-false (fits2-at-returns-3 c .fits2 .result) (else1-at-returns-3 c .if1 .left),
-      fit,
-    )
-    (form-done-at-returns-3 c .form-done .ensures staging store)
+    form-over (machine (a .p) (a .page .now) (a .line .now) staging store) (fit (else1-at-returns-3 c)) (advance-at-returns-3 c .advance .ensures .0)
+    (lower-at-returns-3 c .lower .ensures) (form-done-at-returns-3 c .form-done .ensures staging store)
+    (sym (fits3-at-returns-3 c .fits3 .ensures) ∙ else2-at-returns-3 c .if2 .left)
 
 pub newline-spec : {M : Type 1} → statement M
 newline-spec =

@@ -1,13 +1,9 @@
--- `terminators::tab_to` meets its contract.
+-- `terminators::tab_to`: each arm strikes at the row where that tab leads, as the definition does.
 mod Places
 use borrow.Author.Needs.{needs}
-use mathlib.Core.Path.{ap, subst, _∙_}
-use Rattle.sheet.specs.declared.Row.{Row}
-use Rattle.sheet.specs.Edition.{lp2}
-use Rattle.printer.specs.Terminators.{strike, tab-to}
-use Rattle.printer.specs.Steps.{finished, quiet}
-use Rattle.printer.specs.Given.{machine}
+use mathlib.Core.Path.{subst, _∙_}
 use Rattle.printer.specs.Room.{Kept}
+use Rattle.carriage.proofs.Struck.{stays, to-below, to-lowest}
 use Rattle.carriage.proofs.terminators.tab_to.Statement.{statement}
 use Rattle.carriage.proofs.terminators.tab_to.Tie as tie
 use Places.*
@@ -19,40 +15,18 @@ first-row-requires-2 : tie.Need-first-row-requires-2
 first-row-requires-2 c κs = let k = subst Kept (c .before .lowest .given .1) (start-at-first-row-requires-2 c .pre .3) in search needs
 
 returns : tie.Need-returns
-unfolding tab-to
 returns c staging store =
-    simp (below-at-returns c .below .given .1)
-    (line-done-at-returns c .line-done .ensures staging store
-    ∙ ap
-    (λ (r : Row).
-    quiet
-    (strike lp2 r
-    (machine (start-at-returns c .args .p) (start-at-returns c .args .page .now) (start-at-returns c .args .line .now) staging store)))
-    (first-row-at-returns c .first-row .ensures))
+    line-done-at-returns c .line-done .ensures staging store ∙ to-below _ _ (below-at-returns c .below .given .1) (first-row-at-returns c .first-row .ensures)
 
 returns-2 : tie.Need-returns-2
-unfolding tab-to
 returns-2 c staging store =
-    simp (
-      enum-told-at-returns-2 c .enum-told .given .1,
-      lowest-at-returns-2 c .lowest .given .1,
-    )
-    (form-done-at-returns-2 c .form-done .ensures staging store
-    ∙ ap
-    (λ (r : Row).
-    finished
-    (strike lp2 r
-    (machine (start-at-returns-2 c .args .p) (start-at-returns-2 c .args .page .now) (start-at-returns-2 c .args .line .now) staging store)))
-    (first-row2-at-returns-2 c .first-row2 .ensures))
+    form-done-at-returns-2 c .form-done .ensures staging store
+    ∙ to-lowest _ (enum-told-at-returns-2 c .enum-told .given .1) (lowest-at-returns-2 c .lowest .given .1) (first-row2-at-returns-2 c .first-row2 .ensures)
 
 returns-3 : tie.Need-returns-3
-unfolding tab-to
 returns-3 c staging store =
-    simp (
-      enum-told-at-returns-3 c .enum-told .given .1,
-      enum-told2-at-returns-3 c .enum-told2 .given .1,
-    )
-    (line-done2-at-returns-3 c .line-done2 .ensures staging store)
+    line-done2-at-returns-3 c .line-done2 .ensures staging store
+    ∙ stays _ (enum-told-at-returns-3 c .enum-told .given .1) (enum-told2-at-returns-3 c .enum-told2 .given .1)
 
 pub tab-to-spec : {M : Type 1} → statement M
 tab-to-spec =

@@ -1,4 +1,4 @@
--- `downloads::copy` meets its contract.
+-- `downloads::copy`: the first i bytes are those of `from`, the rest those that were there.
 use borrow.Author.Needs.{needs}
 use native.Mathlib.Omega.{arith}
 use Prim.Native.Nat.{_-_, _≤_, _<_}

@@ -1,4 +1,4 @@
--- `downloads::loaded` meets its contract.
+-- `downloads::loaded`: a sum that wraps is the definition's sum modulo 256.
 use borrow.Author.Needs.{needs}
 use Rattle.commands.proofs.downloads.loaded.Statement.{statement}
 use Rattle.commands.proofs.downloads.loaded.Tie as tie

@@ -1,4 +1,4 @@
--- `downloads::out_of_range` meets its contract.
+-- `downloads::out_of_range`: the tests of `||` in the definition's order; the first that holds makes the whole true.
 use borrow.Author.Needs.{needs}
 use borrow.Author.Tests.{eq-eqb, le-ltb, lt-ltb, ne-eqb}
 use Rattle.printer.specs.Downloads.{out-of-range}

@@ -1,4 +1,4 @@
--- `downloads::replace` meets its contract.
+-- `downloads::replace`: the bytes copied to the front of the store's part from `at` on are the definition's replacement.
 mod Places
 use borrow.Author.Needs.{needs}
 use Rattle.commands.proofs.Copying.{part-copied}

@@ -1,4 +1,4 @@
--- `downloads::stage` meets its contract.
+-- `downloads::stage`: a store that has no byte k keeps all of its bytes, as `set` past the end does.
 use borrow.Author.Needs.{needs}
 use mathlib.Core.Path.{sym}
 use lib.Seq.{set-out}

@@ -1,4 +1,4 @@
--- `escapes::escape` meets its contract.
+-- `escapes::escape`: the arms are the definition's tests in its order, each with the one change of the state that it names.
 use borrow.Author.Needs.{needs}
 use mathlib.Core.Path.{_∙_}
 use borrow.Author.Tests.{ne-eqb}

@@ -1,4 +1,4 @@
--- `escapes::has_line` meets its contract.
+-- `escapes::has_line`: the tests of `&&` in the order that the definition takes them.
 use borrow.Author.Tests.{le-leb, lt-leb}
 use Rattle.sheet.specs.Form.{has-line}
 use Rattle.commands.proofs.escapes.has_line.Statement.{statement}

@@ -1,4 +1,4 @@
--- `escapes::in_turn` meets its contract.
+-- `escapes::in_turn`: on a fresh line what is asked for, else a note.
 use borrow.Author.Needs.{needs}
 use Rattle.printer.specs.Escapes.{in-turn}
 use Rattle.commands.proofs.escapes.in_turn.Statement.{statement}

@@ -1,4 +1,4 @@
--- `escapes::select` meets its contract.
+-- `escapes::select`: both bytes are tested in the definition's order.
 use borrow.Author.Needs.{needs}
 use borrow.Author.Tests.{ne-eqb}
 use Rattle.printer.specs.Escapes.{select}

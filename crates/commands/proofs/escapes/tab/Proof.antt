@@ -1,4 +1,4 @@
--- `escapes::tab` meets its contract.
+-- `escapes::tab`: the tabs alone change.
 use borrow.Author.Needs.{needs}
 use Rattle.printer.specs.Escapes.{tab}
 use Rattle.commands.proofs.escapes.tab.Statement.{statement}

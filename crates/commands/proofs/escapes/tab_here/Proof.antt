@@ -1,4 +1,4 @@
--- `escapes::tab_here` meets its contract.
+-- `escapes::tab_here`: a line counts from 1, so that its tab has a place.
 use borrow.Author.Needs.{needs}
 use native.Mathlib.Omega.{arith}
 use Rattle.sheet.specs.Form.{line-of}

@@ -1,4 +1,4 @@
--- `escapes::tab_item` meets its contract.
+-- `escapes::tab_item`: an item that is a line of the form sets its tab; another is a note.
 use borrow.Author.Needs.{needs}
 use mathlib.Core.Bool.{and-eq-true-iff}
 use mathlib.Core.Path.{sym, _∙_}

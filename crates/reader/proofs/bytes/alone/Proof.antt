@@ -1,8 +1,8 @@
--- `bytes::alone` meets its contract.
+-- `bytes::alone`: plot mode parts the bytes first, as in the definition.
 mod Places
 use borrow.Author.Needs.{needs}
-use mathlib.Core.Path.{_∙_}
 use Rattle.printer.specs.Alone.{alone}
+use Rattle.state.proofs.Tests.{unless, when}
 use Rattle.reader.proofs.bytes.alone.Statement.{statement}
 use Rattle.reader.proofs.bytes.alone.Tie as tie
 use Places.*
@@ -11,11 +11,11 @@ returns : tie.Need-returns
 unfolding alone
 returns c staging =
     let a = start-at-returns c .args in
-    c .before .before .plot-byte .ensures (a .page .now) staging (a .store .now) ∙ simp (then1-at-returns c .if1 .taken)
+    when _ (then1-at-returns c .if1 .taken) (c .before .before .plot-byte .ensures (a .page .now) staging (a .store .now))
 
 returns-2 : tie.Need-returns-2
 unfolding alone
-returns-2 c staging = text-byte-at-returns-2 c .text-byte .ensures staging ∙ simp (else1-at-returns-2 c .if1 .left)
+returns-2 c staging = unless _ (else1-at-returns-2 c .if1 .left) (text-byte-at-returns-2 c .text-byte .ensures staging)
 
 pub alone-spec : {M : Type 1} → statement M
 alone-spec =

@@ -1,4 +1,4 @@
--- `bytes::step` meets its contract.
+-- `bytes::step`: the byte is counted before it is acted on, as in the definition.
 mod Places
 use borrow.Author.Needs.{needs}
 use Rattle.printer.specs.Bytes.{step}

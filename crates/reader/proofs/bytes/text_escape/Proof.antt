@@ -1,9 +1,11 @@
--- `bytes::text_escape` meets its contract.
+-- `bytes::text_escape`: four bytes begin longer commands, the rest end theirs here; the arms are the definition's tests in its order.
 use borrow.Author.Needs.{needs}
 use mathlib.Core.Path.{_∙_}
 use borrow.Author.Tests.{ne-eqb}
 use Rattle.printer.specs.Bytes.{text-escape}
-use Rattle.printer.specs.Escapes.{clear-tabs}
+use Rattle.printer.specs.Escapes.{clear-tabs, escape}
+use Rattle.state.proofs.Going.{from}
+use Rattle.state.proofs.Tests.{unless}
 use Rattle.reader.proofs.bytes.text_escape.Statement.{statement}
 use Rattle.reader.proofs.bytes.text_escape.Tie as tie
 
@@ -12,28 +14,23 @@ unfolding text-escape clear-tabs
 returns c m = c .waiting .ensures m ∙ simp (c .before .clear-tabs .ensures, c .before .before .match .keys1)
 
 returns-2 : tie.Need-returns-2
-unfolding text-escape clear-tabs
+unfolding text-escape
 returns-2 c m = c .waiting2 .ensures m ∙ simp (c .before .match .keys2)
 
 returns-3 : tie.Need-returns-3
-unfolding text-escape clear-tabs
+unfolding text-escape
 returns-3 c m = c .waiting3 .ensures m ∙ simp (c .before .match .keys3)
 
 returns-4 : tie.Need-returns-4
-unfolding text-escape clear-tabs
+unfolding text-escape
 returns-4 c m = c .waiting4 .ensures m ∙ simp (c .before .match .keys4)
 
 returns-5 : tie.Need-returns-5
-unfolding text-escape clear-tabs
+unfolding text-escape
 returns-5 c m =
-    c .escape .ensures m
-    ∙ simp (
-      c .before .with-pending .ensures,
-      ne-eqb _ _ (c .before .before .match .rest .1),
-      ne-eqb _ _ (c .before .before .match .rest .0 .1),
-      ne-eqb _ _ (c .before .before .match .rest .0 .0 .1),
-      ne-eqb _ _ (c .before .before .match .rest .0 .0 .0 .1),
-    )
+    let a = c .before .before .before .args in let none = c .before .before .match .rest in
+    unless _ (ne-eqb _ _ (none .0 .0 .0 .1)) (unless _ (ne-eqb _ _ (none .0 .0 .1)) (unless _ (ne-eqb _ _ (none .0 .1)) (unless _ (ne-eqb _ _ (none .1))
+    (from (escape (a .b) (a .place)) m (c .before .with-pending .ensures) (c .escape .ensures m)))))
 
 pub text-escape-spec : {M : Type 1} → statement M
 text-escape-spec =

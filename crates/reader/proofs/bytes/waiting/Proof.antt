@@ -1,4 +1,4 @@
--- `bytes::waiting` meets its contract.
+-- `bytes::waiting`: nothing but what is pending changes.
 use borrow.Author.Needs.{needs}
 use Rattle.reader.proofs.bytes.waiting.Statement.{statement}
 use Rattle.reader.proofs.bytes.waiting.Tie as tie

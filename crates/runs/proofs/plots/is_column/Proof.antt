@@ -1,4 +1,4 @@
--- `plots::is_column` meets its contract.
+-- `plots::is_column`: the tests of `&&` in the order that the definition takes them.
 use borrow.Author.Tests.{le-ltb, lt-ltb}
 use Rattle.runs.proofs.plots.is_column.Statement.{statement}
 use Rattle.runs.proofs.plots.is_column.Tie as tie

@@ -1,4 +1,4 @@
--- `plots::plots` meets its contract.
+-- `plots::plots`: the tests of `&&` in the order that the definition takes them.
 use borrow.Author.Needs.{needs}
 use Rattle.runs.proofs.plots.plots.Statement.{statement}
 use Rattle.runs.proofs.plots.plots.Tie as tie

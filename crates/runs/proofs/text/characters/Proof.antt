@@ -1,21 +1,19 @@
--- `text::characters` meets its contract.
+-- `text::characters`: each byte that prints and whose cell has room leads the machine one character on; the first that does not ends the run.
 mod Places
 use borrow.Author.Needs.{needs}
 use Prim.Native.Nat.{ℕ, _+_, _-_, _≤_, _<_}
 use mathlib.Core.Bool.{cond}
 use mathlib.Core.List.{List}
-use mathlib.Core.Path.{_≡_, refl, sym, _∙_}
+use mathlib.Core.Path.{_≡_, refl, _∙_}
 use native.Mathlib.Omega.{arith}
-use borrow.Author.Tests.{not-false}
-use lib.ListN.{length}
-use Rattle.glyph.specs.Entering.{cell}
+use lib.ListN.{getD, length}
 use Rattle.glyph.proofs.Cells.{cell-bounds}
 use Rattle.printer.specs.declared.Printer.{Printer}
 use Rattle.printer.specs.Given.{machine}
 use Rattle.protocol.specs.Calls.{limit}
 use Rattle.runs.specs.Leads.{Leads, Typing}
-use Rattle.runs.proofs.Leading.{leads-nowhere}
-use Rattle.runs.proofs.Typed.{entering, roomy, stays-on, typed-on}
+use Rattle.runs.proofs.Leading.{Taken, countable, leads-nowhere, none-taken, one-more}
+use Rattle.runs.proofs.Typed.{Enters, entering, roomy, stays-on, typed-on, types-still}
 use Rattle.runs.proofs.text.characters.Statement.{statement}
 use Rattle.runs.proofs.text.characters.Tie as tie
 use Places.*
@@ -25,8 +23,7 @@ record Inv (piece line₀ line glyphs : List ℕ) (n : ℕ) (q₀ q : Printer) (
   pub typing : Typing q
   pub style : q .style ≡ q₀ .style
   pub column : q .head .column ≤ 2200
-  pub within : k ≤ n
-  pub counted : q .job ≡ q₀ .job + k
+  pub taken : Taken n k (q₀ .job) (q .job)
   pub kept : length line ≡ length line₀
   pub leads : (page staging store font : List ℕ) → cond (q₀ .style .downloaded) store font ≡ glyphs
       → Leads font piece k (machine q₀ page line₀ staging store) (machine q page line staging store)
@@ -44,73 +41,55 @@ loop-holds c =
       typing = s .pre .0;
       style = refl;
       column = s .pre .1;
-      within = omega arith;
-      counted = omega arith;
+      taken = none-taken _ _;
       kept = refl;
       leads = λ page staging store font e. leads-nowhere font _ _;
     }
 
-shared-slice-read-b : tie.Need-shared-slice-read-b Inv-loop μ-loop
-shared-slice-read-b c = omega (arith, start-at-add-next c, c .before .loop-test)
+inside : (c : tie.In-loop Inv-loop μ-loop) → c .before .loop .k < length (start-at-in-loop c .args .piece .now)
+inside c = omega (arith, c .loop-test, start-at-in-loop c .pre .4)
+
+room : (c : tie.In-loop Inv-loop μ-loop) → c .before .loop .q .job < limit
+room c = countable (c .before .loop .inv .taken) (c .loop-test .taken) (start-at-in-loop c .pre .5)
 
 add-next : tie.Need-add-next Inv-loop μ-loop
 add-next c = omega (arith, c .before .before .loop, c .before .before .before .cell .ensures, cell-bounds (start-at-add-next c .args .p .style .elongated))
 
-same-length : tie.Need-same-length Inv-loop μ-loop
-same-length c = loop-at-returns c .loop .inv .kept
-
 returns : tie.Need-returns Inv-loop μ-loop
 returns c = loop-at-returns c .loop .inv .leads
+
+-- the byte prints, and its cell has room on the line
+character : (c : tie.Else1 Inv-loop μ-loop) → Enters (getD (start-at-else1 c .args .piece .now) (loop-at-else1 c .loop .k) 0)
+    (loop-at-else1 c .loop .q .head .column + cell-at-else1 c .cell .result) (width-at-else1 c .width .result)
+character c = entering _ _ _ (c .before .enters .ensures) (c .if1 .left)
 
 enter-requires : tie.Need-enter-requires Inv-loop μ-loop
 enter-requires c κs =
     let s = start-at-enter-requires c in
-    let b =
-    entering _ _ _
-    (sym (c .before .before .before .enters .ensures) ∙ not-false (c .before .before .before .enters .result) (c .before .before .if1 .left)) in
-    let room =
-    roomy (s .args .p .style) (cell-at-enter-requires c .cell .ensures) (width-at-enter-requires c .width .ensures) b
-    (loop-at-enter-requires c .loop .inv .kept ∙ s .pre .2) (s .pre .3) in
-    simp (c .code .ensures) room
-
-add-q : tie.Need-add-q Inv-loop μ-loop
-add-q c = omega (arith, loop-at-loop-again c .loop .inv .counted, in-loop-at-loop-again c .loop-test, start-at-loop-again c .pre .5)
-
-add-k : tie.Need-add-k Inv-loop μ-loop
-add-k c = omega (arith, in-loop-at-loop-again c .loop-test, start-at-loop-again c)
-
-loop-less : tie.Need-loop-less Inv-loop μ-loop
-loop-less c = omega (arith, in-loop-at-loop-again c .loop-test)
+    roomy (s .args .p .style) (cell-at-enter-requires c .cell .ensures) (width-at-enter-requires c .width .ensures) (character (c .before .before))
+    (c .code .ensures) (loop-at-enter-requires c .loop .inv .kept ∙ s .pre .2) (s .pre .3)
 
 loop-again : tie.Need-loop-again Inv-loop μ-loop
 loop-again c =
     let s = start-at-loop-again c in
     let l = loop-at-loop-again c .loop in
-    let b =
-    entering _ _ _
-    (sym (enters-at-loop-again c .enters .ensures) ∙ not-false (enters-at-loop-again c .enters .result) (else1-at-loop-again c .if1 .left)) in
-    let inside : l .k < length (s .args .piece .now) = omega (arith, in-loop-at-loop-again c .loop-test, s .pre .4) in
-    let room : l .q .job < limit = omega (arith, l .inv .counted, in-loop-at-loop-again c .loop-test, s .pre .5) in
+    let i = in-loop-at-loop-again c in
+    let b = character (else1-at-loop-again c) in
     record {
-      typing = record { pending = l .inv .typing .pending; plotting = l .inv .typing .plotting; plotted = l .inv .typing .plotted };
+      typing = types-still _ (l .inv .typing);
       style = l .inv .style;
       column = stays-on (s .args .p .style) (cell-at-loop-again c .cell .ensures) (width-at-loop-again c .width .ensures) b;
-      within = omega (arith, in-loop-at-loop-again c .loop-test);
-      counted = omega (arith, l .inv .counted);
+      taken = one-more (l .inv .taken) (i .loop-test .taken);
       kept = enter-at-loop-again c .enter .kept .0 ∙ l .inv .kept;
       leads = λ page staging store font e. typed-on (s .args .p .style) (cell-at-loop-again c .cell .ensures) (width-at-loop-again c .width .ensures)
-          (l .inv .leads page staging store font e) (l .inv .typing) (l .inv .style) inside room b e
-          (enter-at-loop-again c .enter .ensures ∙ simp (code-at-loop-again c .code .ensures));
+          (l .inv .leads page staging store font e) (l .inv .typing) (l .inv .style) (inside i) (room i) b e
+          (code-at-loop-again c .code .ensures) (enter-at-loop-again c .enter .ensures);
     }
-
-same-length-2 : tie.Need-same-length-2 Inv-loop μ-loop
-same-length-2 c = c .before .loop .inv .kept
-
-returns-2 : tie.Need-returns-2 Inv-loop μ-loop
-returns-2 c = c .before .loop .inv .leads
 
 pub characters-spec : {M : Type 1} → statement M
 characters-spec =
     tie.close
-    (tie.spec Inv-loop μ-loop (λ c κs. search needs) (λ c κs. search needs) loop-holds shared-slice-read-b add-next (λ c κs. search needs) same-length
-    returns (λ c κs. search needs) enter-requires add-q add-k loop-less loop-again same-length-2 returns-2)
+    (tie.spec Inv-loop μ-loop (λ c κs. search needs) (λ c κs. search needs) loop-holds (λ c. inside (c .before)) add-next (λ c κs. search needs)
+    (λ c. loop-at-returns c .loop .inv .kept) returns (λ c κs. search needs) enter-requires
+    (λ c. omega (arith, room (in-loop-at-loop-again c))) (λ c. omega (arith, inside (in-loop-at-loop-again c), start-at-loop-again c))
+    (λ c. omega (arith, in-loop-at-loop-again c .loop-test)) loop-again (λ c. c .before .loop .inv .kept) (λ c. c .before .loop .inv .leads))

@@ -1,4 +1,4 @@
--- `text::enters` meets its contract.
+-- `text::enters`: the tests of `&&` in the order that the definition takes them.
 use borrow.Author.Needs.{needs}
 use Rattle.runs.proofs.text.enters.Statement.{statement}
 use Rattle.runs.proofs.text.enters.Tie as tie

@@ -1,4 +1,4 @@
--- `text::prints` meets its contract.
+-- `text::prints`: the tests of `&&` in the order that the definition takes them.
 use borrow.Author.Tests.{le-leb, lt-leb}
 use Rattle.runs.proofs.text.prints.Statement.{statement}
 use Rattle.runs.proofs.text.prints.Tie as tie

@@ -1,4 +1,4 @@
--- `text::text_run` meets its contract.
+-- `text::text_run`: the glyphs are those of the store or of the font, as the style says.
 mod Places
 use borrow.Author.Needs.{needs}
 use Rattle.runs.proofs.text.text_run.Statement.{statement}

@@ -1,4 +1,4 @@
--- `parts::after_reset` meets its contract.
+-- `parts::after_reset`: a fresh line and no tabs are all that a reset changes.
 use borrow.Author.Needs.{needs}
 use Rattle.printer.specs.Escapes.{after-reset, clear-tabs}
 use Rattle.state.proofs.parts.after_reset.Statement.{statement}

@@ -1,4 +1,4 @@
--- `parts::clear_tabs` meets its contract.
+-- `parts::clear_tabs`: no tabs are two words of 0.
 use borrow.Author.Needs.{needs}
 use Rattle.printer.specs.Escapes.{clear-tabs}
 use Rattle.printer.specs.Tabs.{no-tabs}

@@ -1,4 +1,4 @@
--- `soundness::form_sound` meets its contract.
+-- `soundness::form_sound`: lines and spacing are tested in the order that the definition takes them.
 use borrow.Author.Needs.{needs}
 use Rattle.printer.specs.Sound.{form-sound}
 use Rattle.state.proofs.soundness.form_sound.Statement.{statement}

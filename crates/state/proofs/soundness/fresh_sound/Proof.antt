@@ -1,4 +1,4 @@
--- `soundness::fresh_sound` meets its contract.
+-- `soundness::fresh_sound`: the tests of `||` and `&&` in the order that the definition takes them.
 use borrow.Author.Tests.{eq-eqb, ne-eqb}
 use Rattle.printer.specs.Sound.{fresh-sound}
 use Rattle.state.proofs.soundness.fresh_sound.Statement.{statement}

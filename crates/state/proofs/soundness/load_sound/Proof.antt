@@ -1,4 +1,4 @@
--- `soundness::load_sound` meets its contract.
+-- `soundness::load_sound`: only a payload has anything to compare; the other arms are true at once.
 use borrow.Author.Needs.{needs}
 use Rattle.state.proofs.soundness.load_sound.Statement.{statement}
 use Rattle.state.proofs.soundness.load_sound.Tie as tie

@@ -1,4 +1,4 @@
--- `soundness::place_sound` meets its contract.
+-- `soundness::place_sound`: nothing begun is true at once; else the two numbers are compared.
 use borrow.Author.Needs.{needs}
 use Rattle.state.proofs.soundness.place_sound.Statement.{statement}
 use Rattle.state.proofs.soundness.place_sound.Tie as tie

@@ -1,4 +1,4 @@
--- `soundness::plot_sound` meets its contract.
+-- `soundness::plot_sound`: the tests of `||` and `&&` in the order that the definition takes them.
 use borrow.Author.Needs.{needs}
 use Rattle.printer.specs.Sound.{plot-sound}
 use Rattle.state.proofs.soundness.plot_sound.Statement.{statement}

@@ -1,142 +1,106 @@
--- `soundness::sound` meets its contract.
+-- `soundness::sound`: each test that holds leaves the answer to the tests after it; the first that fails makes the whole false.
 mod Places
 use borrow.Author.Needs.{needs}
-use mathlib.Core.Bool.{and-eq-true-iff, true}
-use mathlib.Core.Path.{_≡_, sym, _∙_}
-use borrow.Author.Tests.{le-leb, leb-true, lt-leb, not-false, not-true}
+use mathlib.Core.Bool.{Bool, and-eq-true-iff, true, _&&_}
+use mathlib.Core.Path.{_≡_, ap, refl, sym, _∙_}
+use borrow.Author.Tests.{le-leb, leb-true, lt-leb}
 use lib.Dec.{leb}
 use Rattle.sheet.specs.Edition.{lp2}
-use Rattle.sheet.specs.Form.{lines-allowed, spacing-allowed}
-use Rattle.printer.specs.Sound.{form-sound, sound}
+use Rattle.sheet.specs.Form.{fits, lines-allowed, spacing-allowed}
+use Rattle.printer.specs.declared.Printer.{Printer}
+use Rattle.printer.specs.Sound.{begun, form-sound, fresh-sound, load-sound, place-sound, sound, tabs-sound}
+use Rattle.printer.specs.Tabs.{line-tabs}
+use Rattle.state.proofs.Tests.{decides, failed, passed}
 use Rattle.state.proofs.soundness.sound.Statement.{statement}
 use Rattle.state.proofs.soundness.sound.Tie as tie
 use Places.*
 
+-- the tests, and how far they are true: a fact for the place behind each
+abbrev tests1 : Printer → Bool
+tests1 p = form-sound lp2 (p .form)
+
+abbrev tests2 : Printer → Bool
+tests2 p = tests1 p && fits (p .form) (p .head .row)
+
+abbrev tests3 : Printer → Bool
+tests3 p = tests2 p && leb (p .head .column) (lp2 .width (p .style .pitch))
+
+abbrev tests4 : Printer → Bool
+tests4 p = tests3 p && tabs-sound (p .form) (line-tabs (p .tabs))
+
+abbrev tests5 : Printer → Bool
+tests5 p = tests4 p && load-sound (p .pending)
+
+abbrev tests6 : Printer → Bool
+tests6 p = tests5 p && place-sound (p .job) (begun (p .pending))
+
+abbrev tests7 : Printer → Bool
+tests7 p = tests6 p && fresh-sound (p .head)
+
+held1 : (c : tie.Else1) → tests1 (start-at-else1 c .args .p) ≡ true
+held1 c = passed (c .before .form-sound .ensures) (c .if1 .left)
+
+held2 : (c : tie.Else2) → tests2 (start-at-else2 c .args .p) ≡ true
+held2 c = decides (held1 (c .before .before)) (passed (c .before .fits2 .ensures) (c .if2 .left))
+
+held3 : (c : tie.Else3) → tests3 (start-at-else3 c .args .p) ≡ true
+held3 c = decides (held2 (c .before .before .before)) (le-leb _ _ (rw (c .before .before .width .ensures) at (c .if3 .left)))
+
+held4 : (c : tie.Else4) → tests4 (start-at-else4 c .args .p) ≡ true
+held4 c = decides (held3 (c .before .before)) (passed (c .before .tabs-sound .ensures) (c .if4 .left))
+
+held5 : (c : tie.Else5) → tests5 (start-at-else5 c .args .p) ≡ true
+held5 c = decides (held4 (c .before .before)) (passed (c .before .load-sound .ensures) (c .if5 .left))
+
+-- the place test is of where the pending command began, which `begun` gave
+placed : (c : tie.After-place-sound)
+    → c .place-sound .result ≡ place-sound (start-at-place-sound c .args .p .job) (begun (start-at-place-sound c .args .p .pending))
+placed c = c .place-sound .ensures ∙ ap (place-sound _) (c .before .begun .ensures)
+
+held6 : (c : tie.Else6) → tests6 (start-at-else6 c .args .p) ≡ true
+held6 c = decides (held5 (c .before .before .before)) (passed (placed (c .before)) (c .if6 .left))
+
+held7 : (c : tie.Else7) → tests7 (start-at-else7 c .args .p) ≡ true
+held7 c = decides (held6 (c .before .before)) (passed (c .before .fresh-sound .ensures) (c .if7 .left))
+
 returns : tie.Need-returns
 unfolding sound
-returns c = simp (← c .before .form-sound .ensures, not-true (c .before .form-sound .result) (c .if1 .taken))
+returns c = rw (failed (c .before .form-sound .ensures) (c .if1 .taken))
 
 fits-requires : tie.Need-fits-requires
 unfolding form-sound lines-allowed lp2
 fits-requires c κs =
     let f = start-at-fits-requires c .args .p .form in
-    let s : form-sound lp2 f ≡ true = sym (c .before .form-sound .ensures) ∙ not-false (c .before .form-sound .result) (c .if1 .left) in
-    let t = and-eq-true-iff (lines-allowed lp2 (f .lines)) (spacing-allowed (f .spacing)) .0 s in
-    let u = and-eq-true-iff (leb 1 (f .lines)) (leb (f .lines) 99) .0 (t .0) in leb-true _ _ (u .1)
+    let t = and-eq-true-iff (lines-allowed lp2 (f .lines)) (spacing-allowed (f .spacing)) .0 (held1 c) in
+    leb-true _ _ (and-eq-true-iff (leb 1 (f .lines)) (leb (f .lines) 99) .0 (t .0) .1)
 
 returns-2 : tie.Need-returns-2
 unfolding sound
-returns-2 c =
-    simp (
-      ← c .before .before .before .form-sound .ensures,
-      not-false (c .before .before .before .form-sound .result) (c .before .before .if1 .left),
-      ← c .before .fits2 .ensures,
-      not-true (c .before .fits2 .result) (c .if2 .taken),
-    )
+returns-2 c = rw (decides (held1 (c .before .before)) (failed (c .before .fits2 .ensures) (c .if2 .taken)))
 
 returns-3 : tie.Need-returns-3
 unfolding sound
-returns-3 c =
-    simp (
-      ← form-sound-at-returns-3 c .form-sound .ensures,
-      not-false (form-sound-at-returns-3 c .form-sound .result) (else1-at-returns-3 c .if1 .left),
-      ← fits2-at-returns-3 c .fits2 .ensures,
-      not-false (fits2-at-returns-3 c .fits2 .result) (c .before .before .before .if2 .left),
-      lt-leb (start-at-returns-3 c .args .p .head .column) (lp2 .width (start-at-returns-3 c .args .p .style .pitch))
-          (simp (c .before .before .width .ensures) at (c .if3 .taken)),
-    )
+returns-3 c = rw (decides (held2 (c .before .before .before)) (lt-leb _ _ (rw (c .before .before .width .ensures) at (c .if3 .taken))))
 
 returns-4 : tie.Need-returns-4
 unfolding sound
-returns-4 c =
-    simp (
-      ← form-sound-at-returns-4 c .form-sound .ensures,
-      not-false (form-sound-at-returns-4 c .form-sound .result) (else1-at-returns-4 c .if1 .left),
-      ← fits2-at-returns-4 c .fits2 .ensures,
-      not-false (fits2-at-returns-4 c .fits2 .result) (else2-at-returns-4 c .if2 .left),
-      le-leb (start-at-returns-4 c .args .p .head .column) (lp2 .width (start-at-returns-4 c .args .p .style .pitch))
-          (simp (width-at-returns-4 c .width .ensures) at (c .before .before .if3 .left)),
-      ← c .before .tabs-sound .ensures,
-      not-true (c .before .tabs-sound .result) (c .if4 .taken),
-    )
+returns-4 c = rw (decides (held3 (c .before .before)) (failed (c .before .tabs-sound .ensures) (c .if4 .taken)))
 
 returns-5 : tie.Need-returns-5
 unfolding sound
-returns-5 c =
-    simp (
-      ← form-sound-at-returns-5 c .form-sound .ensures,
-      not-false (form-sound-at-returns-5 c .form-sound .result) (else1-at-returns-5 c .if1 .left),
-      ← fits2-at-returns-5 c .fits2 .ensures,
-      not-false (fits2-at-returns-5 c .fits2 .result) (else2-at-returns-5 c .if2 .left),
-      le-leb (start-at-returns-5 c .args .p .head .column) (lp2 .width (start-at-returns-5 c .args .p .style .pitch))
-          (simp (width-at-returns-5 c .width .ensures) at (else3-at-returns-5 c .if3 .left)),
-      ← c .before .before .before .tabs-sound .ensures,
-      not-false (c .before .before .before .tabs-sound .result) (c .before .before .if4 .left),
-      ← c .before .load-sound .ensures,
-      not-true (c .before .load-sound .result) (c .if5 .taken),
-    )
+returns-5 c = rw (decides (held4 (c .before .before)) (failed (c .before .load-sound .ensures) (c .if5 .taken)))
 
 returns-6 : tie.Need-returns-6
 unfolding sound
-returns-6 c =
-    simp (
-      ← form-sound-at-returns-6 c .form-sound .ensures,
-      not-false (form-sound-at-returns-6 c .form-sound .result) (else1-at-returns-6 c .if1 .left),
-      ← fits2-at-returns-6 c .fits2 .ensures,
-      not-false (fits2-at-returns-6 c .fits2 .result) (else2-at-returns-6 c .if2 .left),
-      le-leb (start-at-returns-6 c .args .p .head .column) (lp2 .width (start-at-returns-6 c .args .p .style .pitch))
-          (simp (width-at-returns-6 c .width .ensures) at (else3-at-returns-6 c .if3 .left)),
-      ← tabs-sound-at-returns-6 c .tabs-sound .ensures,
-      not-false (tabs-sound-at-returns-6 c .tabs-sound .result) (else4-at-returns-6 c .if4 .left),
-      ← load-sound-at-returns-6 c .load-sound .ensures,
-      not-false (load-sound-at-returns-6 c .load-sound .result) (c .before .before .before .if5 .left),
-      ← c .before .before .begun .ensures,
-      ← c .before .place-sound .ensures,
-      not-true (c .before .place-sound .result) (c .if6 .taken),
-    )
+returns-6 c = rw (decides (held5 (c .before .before .before)) (failed (placed (c .before)) (c .if6 .taken)))
 
 returns-7 : tie.Need-returns-7
 unfolding sound
-returns-7 c =
-    simp (
-      ← form-sound-at-returns-7 c .form-sound .ensures,
-      not-false (form-sound-at-returns-7 c .form-sound .result) (else1-at-returns-7 c .if1 .left),
-      ← fits2-at-returns-7 c .fits2 .ensures,
-      not-false (fits2-at-returns-7 c .fits2 .result) (else2-at-returns-7 c .if2 .left),
-      le-leb (start-at-returns-7 c .args .p .head .column) (lp2 .width (start-at-returns-7 c .args .p .style .pitch))
-          (simp (width-at-returns-7 c .width .ensures) at (else3-at-returns-7 c .if3 .left)),
-      ← tabs-sound-at-returns-7 c .tabs-sound .ensures,
-      not-false (tabs-sound-at-returns-7 c .tabs-sound .result) (else4-at-returns-7 c .if4 .left),
-      ← load-sound-at-returns-7 c .load-sound .ensures,
-      not-false (load-sound-at-returns-7 c .load-sound .result) (else5-at-returns-7 c .if5 .left),
-      ← begun-at-returns-7 c .begun .ensures,
-      ← c .before .before .before .place-sound .ensures,
-      not-false (c .before .before .before .place-sound .result) (c .before .before .if6 .left),
-      ← c .before .fresh-sound .ensures,
-      not-true (c .before .fresh-sound .result) (c .if7 .taken),
-    )
+returns-7 c = rw (decides (held6 (c .before .before)) (failed (c .before .fresh-sound .ensures) (c .if7 .taken)))
 
 returns-8 : tie.Need-returns-8
 unfolding sound
-returns-8 c =
-    simp (
-      ← form-sound-at-returns-8 c .form-sound .ensures,
-      not-false (form-sound-at-returns-8 c .form-sound .result) (else1-at-returns-8 c .if1 .left),
-      ← fits2-at-returns-8 c .fits2 .ensures,
-      not-false (fits2-at-returns-8 c .fits2 .result) (else2-at-returns-8 c .if2 .left),
-      le-leb (start-at-returns-8 c .args .p .head .column) (lp2 .width (start-at-returns-8 c .args .p .style .pitch))
-          (simp (width-at-returns-8 c .width .ensures) at (else3-at-returns-8 c .if3 .left)),
-      ← tabs-sound-at-returns-8 c .tabs-sound .ensures,
-      not-false (tabs-sound-at-returns-8 c .tabs-sound .result) (else4-at-returns-8 c .if4 .left),
-      ← load-sound-at-returns-8 c .load-sound .ensures,
-      not-false (load-sound-at-returns-8 c .load-sound .result) (else5-at-returns-8 c .if5 .left),
-      ← begun-at-returns-8 c .begun .ensures,
-      ← place-sound-at-returns-8 c .place-sound .ensures,
-      not-false (place-sound-at-returns-8 c .place-sound .result) (c .before .before .before .if6 .left),
-      ← c .before .before .fresh-sound .ensures,
-      not-false (c .before .before .fresh-sound .result) (c .before .if7 .left),
-      c .plot-sound .ensures,
-    )
+returns-8 c = c .plot-sound .ensures ∙ sym (decides (held7 (c .before)) refl)
 
 pub sound-spec : {M : Type 1} → statement M
 sound-spec =

@@ -1,4 +1,4 @@
--- `tabs::put_bit` meets its contract.
+-- `tabs::put_bit`: a bit that is or-ed in and then taken away, if it is to be off, leaves the other bits as they were.
 use borrow.Author.Needs.{needs}
 use Prim.Native.Nat.{ℕ, _*_, _%_, _^_, _<_}
 use mathlib.Core.Path.{_≡_}

@@ -1,4 +1,4 @@
--- `tabs::tabbed` meets its contract.
+-- `tabs::tabbed`: lines 1 to 64 have their bits in the low word, 65 to 128 in the high one, and lines past them none.
 use borrow.Author.Needs.{needs}
 use Prim.Native.Nat.{_-_, _/_, _^_}
 use mathlib.Core.Path.{sym}

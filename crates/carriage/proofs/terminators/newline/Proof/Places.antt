@@ -22,18 +22,6 @@ else1-at-returns-3 c = c .before .before .before .before .before .before .before
 abbrev pub else2-at-returns-3 : tie.After-slice-known6 → tie.Else2
 else2-at-returns-3 c = c .before .before .before .before .before .before .before
 
-abbrev pub fits2-at-form-done-requires : tie.After-form-done-arg2 → tie.After-fits2
-fits2-at-form-done-requires c = c .before .before .before .before .before .before .before
-
-abbrev pub fits2-at-line-done-requires : tie.After-line-done-arg2 → tie.After-fits2
-fits2-at-line-done-requires c = c .before .before .before .before .before .before .before
-
-abbrev pub fits2-at-returns-2 : tie.After-slice-known4 → tie.After-fits2
-fits2-at-returns-2 c = c .before .before .before .before .before .before .before .before .before .before .before .before
-
-abbrev pub fits2-at-returns-3 : tie.After-slice-known6 → tie.After-fits2
-fits2-at-returns-3 c = c .before .before .before .before .before .before .before .before .before .before .before .before
-
 abbrev pub fits3-at-returns-2 : tie.After-slice-known4 → tie.After-fits3
 fits3-at-returns-2 c = c .before .before .before .before .before .before .before .before
 
@@ -51,6 +39,9 @@ lower-at-returns-2 c = c .before .before .before .before .before .before .before
 
 abbrev pub lower-at-returns-3 : tie.After-slice-known6 → tie.After-lower
 lower-at-returns-3 c = c .before .before .before .before .before .before .before .before .before
+
+abbrev pub start-at-else1 : tie.Else1 → tie.Start
+start-at-else1 c = c .before .before .before .before .before .before
 
 abbrev pub start-at-form-done-requires : tie.After-form-done-arg2 → tie.Start
 start-at-form-done-requires c = c .before .before .before .before .before .before .before .before .before .before .before .before

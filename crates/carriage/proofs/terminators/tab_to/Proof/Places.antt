@@ -36,10 +36,3 @@ start-at-first-row-requires c = c .before .before .before .before .before .befor
 
 abbrev pub start-at-first-row-requires-2 : tie.After-known-told2 → tie.Start
 start-at-first-row-requires-2 c = c .before .before .before .before .before .before .before .before
-
-abbrev pub start-at-returns : tie.After-slice-known4 → tie.Start
-start-at-returns c = c .before .before .before .before .before .before .before .before .before .before .before .before .before .before
-
-abbrev pub start-at-returns-2 : tie.After-slice-known6 → tie.Start
-start-at-returns-2 c = c .before .before .before .before .before .before .before .before .before .before .before .before .before .before .before
-    .before

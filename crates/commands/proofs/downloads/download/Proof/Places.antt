@@ -25,26 +25,26 @@ else2-at-sub-at c = c .before .before .before .before
 abbrev pub else3-at-returns-4 : tie.After-quiet → tie.Else3
 else3-at-returns-4 c = c .before .before .before .before .before .before
 
-abbrev pub out-of-range-at-replace-requires : tie.After-replace-arg → tie.After-out-of-range
-out-of-range-at-replace-requires c = c .before .before .before .before .before .before
-
-abbrev pub out-of-range-at-returns-3 : tie.After-noted3 → tie.After-out-of-range
-out-of-range-at-returns-3 c = c .before .before .before .before .before
-
-abbrev pub out-of-range-at-returns-4 : tie.After-quiet → tie.After-out-of-range
-out-of-range-at-returns-4 c = c .before .before .before .before .before .before .before .before .before .before
-
-abbrev pub out-of-range-at-sub-at : tie.After-struct-known2 → tie.After-out-of-range
-out-of-range-at-sub-at c = c .before .before .before .before .before
-
 abbrev pub start-at-all-well-formed-requires : tie.After-struct-known → tie.Start
 start-at-all-well-formed-requires c = c .before .before .before .before .before .before .before
+
+abbrev pub start-at-else2 : tie.Else2 → tie.Start
+start-at-else2 c = c .before .before .before .before .before .before
 
 abbrev pub start-at-replace-requires : tie.After-replace-arg → tie.Start
 start-at-replace-requires c = c .before .before .before .before .before .before .before .before .before .before .before
 
-abbrev pub start-at-sub-at : tie.After-struct-known2 → tie.Start
-start-at-sub-at c = c .before .before .before .before .before .before .before .before .before .before
+abbrev pub start-at-returns : tie.After-noted → tie.Start
+start-at-returns c = c .before .before .before .before .before
+
+abbrev pub start-at-returns-2 : tie.After-noted2 → tie.Start
+start-at-returns-2 c = c .before .before .before .before .before .before .before
+
+abbrev pub start-at-returns-3 : tie.After-noted3 → tie.Start
+start-at-returns-3 c = c .before .before .before .before .before .before .before .before .before .before
+
+abbrev pub start-at-returns-4 : tie.After-quiet → tie.Start
+start-at-returns-4 c = c .before .before .before .before .before .before .before .before .before .before .before .before .before .before .before
 
 abbrev pub wrapping-add-u8-at-returns-2 : tie.After-noted2 → tie.After-wrapping-add-u8
 wrapping-add-u8-at-returns-2 c = c .before .before .before .before

@@ -14,8 +14,8 @@ module _ {Inv-loop : tie.InvT-loop} {μ-loop : tie.MeasureT-loop} where
   abbrev pub loop-at-returns : tie.After-staged Inv-loop μ-loop → tie.At-loop Inv-loop μ-loop
   loop-at-returns c = c .before .before .before .before
 
+  abbrev pub start-at-in-loop : tie.In-loop Inv-loop μ-loop → tie.Start Inv-loop μ-loop
+  start-at-in-loop c = c .before .before .before .before
+
   abbrev pub start-at-loop-again : tie.After-loaded Inv-loop μ-loop → tie.Start Inv-loop μ-loop
   start-at-loop-again c = c .before .before .before .before .before .before .before .before .before .before .before .before
-
-  abbrev pub start-at-shared-slice-read-b : tie.After-shared-slice-known2 Inv-loop μ-loop → tie.Start Inv-loop μ-loop
-  start-at-shared-slice-read-b c = c .before .before .before .before .before .before .before

@@ -1,0 +1,2 @@
+-- What the lengths of the memory say.
+pub mod Lengths

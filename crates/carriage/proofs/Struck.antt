@@ -1,0 +1,63 @@
+-- A line struck, and where each terminator leaves the head.
+use Prim.Native.Nat.{ℕ}
+use mathlib.Core.Bool.{cond, false, true}
+use mathlib.Core.List.{List}
+use mathlib.Core.Path.{_≡_}
+use lib.ListN.{drop}
+use Rattle.sheet.specs.declared.Line.{Line}
+use Rattle.sheet.specs.declared.Row.{Row}
+use Rattle.sheet.specs.Dots.{struck}
+use Rattle.sheet.specs.Edition.{lp2}
+use Rattle.sheet.specs.Form.{empty-line, first-line, first-row, fits, lines-through, lower, next-line, rows-per-line, top}
+use Rattle.printer.specs.declared.Event.{Event}
+use Rattle.printer.specs.declared.NextTab.{NextTab}
+use Rattle.printer.specs.declared.NextTab.the-variants.{Tabbed, Untabbed}
+use Rattle.printer.specs.declared.Printer.{Printer}
+use Rattle.printer.specs.declared.Stepped.{Stepped}
+use Rattle.printer.specs.Given.{given, stepped}
+use Rattle.printer.specs.Machine.{Machine, fresh-head, with-head}
+use Rattle.printer.specs.Steps.{Step, finished, quiet}
+use Rattle.printer.specs.Tabs.{line-tabs}
+use Rattle.printer.specs.Terminators.{current-line, first-tab, newline, no-move, strike, tab-to, vertical-tab}
+use Rattle.carriage.proofs.Guarded.{Fits, obeyed}
+
+-- a line struck and the head on a fresh one, whatever is said of it
+pub done : (m : Machine) {next : Row} {r : Stepped} {q : Printer} {v : Event} {page line : List ℕ} →
+    r ≡ stepped q v → q ≡ with-head (fresh-head next) m .printer →
+    page ≡ struck lp2 (m .page) (m .line) (m .printer .head .row) (m .printer .style .pitch) → line ≡ empty-line lp2 →
+    given r page line (m .staging) (m .store) ≡ record { machine = strike lp2 next m; event = v }
+unfolding strike
+done m said moved inked emptied = rw (said, moved, inked, emptied)
+
+module _ (m : Machine) (fit : Fits m) where
+  module _ {rows : ℕ} {next : Row}
+      (advance : rows ≡ cond (m .printer .head .plotted) 7 (rows-per-line (m .printer .form .spacing))) (down : next ≡ lower rows (m .printer .head .row)) where
+    pub line-down : {s : Step} → s ≡ quiet (strike lp2 next m) → fits (m .printer .form) next ≡ true → s ≡ newline lp2 m
+    unfolding newline
+    line-down e h = obeyed m fit (simp (← advance, ← down, h) e)
+
+    pub form-over : {s : Step} → s ≡ finished (strike lp2 top m) → fits (m .printer .form) next ≡ false → s ≡ newline lp2 m
+    unfolding newline
+    form-over e h = obeyed m fit (simp (← advance, ← down, h) e)
+
+  pub tabbed-to : {s : Step} {n : Line} {below lowest : NextTab} → s ≡ tab-to lp2 below lowest m → n ≡ current-line m →
+      below ≡ first-tab (next-line n) (drop (lines-through n) (line-tabs (m .printer .tabs))) → lowest ≡ first-tab first-line (line-tabs (m .printer .tabs)) →
+      s ≡ vertical-tab lp2 m
+  unfolding vertical-tab
+  tabbed-to e current under first = obeyed m fit (simp (← current, ← under, ← first) e)
+
+-- where a tab leads: to the line below, to the first one of the next form, or nowhere
+module _ (m : Machine) {below : NextTab} where
+  pub to-below : (lowest : NextTab) {n : Line} {r : Row} → below ≡ Tabbed n → r ≡ first-row (m .printer .form) n →
+      quiet (strike lp2 r m) ≡ tab-to lp2 below lowest m
+  unfolding tab-to
+  to-below lowest b r = rw (b, r)
+
+  pub to-lowest : {lowest : NextTab} {n : Line} {r : Row} → below ≡ Untabbed → lowest ≡ Tabbed n → r ≡ first-row (m .printer .form) n →
+      finished (strike lp2 r m) ≡ tab-to lp2 below lowest m
+  unfolding tab-to
+  to-lowest b l r = rw (b, l, r)
+
+  pub stays : {lowest : NextTab} → below ≡ Untabbed → lowest ≡ Untabbed → no-move lp2 m ≡ tab-to lp2 below lowest m
+  unfolding tab-to
+  stays b l = rw (b, l)
