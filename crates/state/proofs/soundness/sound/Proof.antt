@@ -3,6 +3,7 @@ mod Places
 use borrow.Author.Needs.{needs}
 use mathlib.Core.Bool.{Bool, and-eq-true-iff, true, _&&_}
 use mathlib.Core.Path.{_≡_, ap, refl, sym, _∙_}
+use native.Mathlib.Omega.{arith}
 use borrow.Author.Tests.{le-leb, leb-true, lt-leb}
 use lib.Dec.{leb}
 use Rattle.sheet.specs.Edition.{lp2}
@@ -44,7 +45,10 @@ held2 : (c : tie.Else2) → tests2 (start-at-else2 c .args .p) ≡ true
 held2 c = decides (held1 (c .before .before)) (passed (c .before .fits2 .ensures) (c .if2 .left))
 
 held3 : (c : tie.Else3) → tests3 (start-at-else3 c .args .p) ≡ true
-held3 c = decides (held2 (c .before .before .before)) (le-leb _ _ (rw (c .before .before .width .ensures) at (c .if3 .left)))
+held3 c =
+    let p = start-at-else3 c .args .p in
+    decides (held2 (c .before .before .before))
+    (le-leb (p .head .column) (lp2 .width (p .style .pitch)) (omega (arith, c .if3 .left, c .before .before .width .ensures)))
 
 held4 : (c : tie.Else4) → tests4 (start-at-else4 c .args .p) ≡ true
 held4 c = decides (held3 (c .before .before)) (passed (c .before .tabs-sound .ensures) (c .if4 .left))
@@ -80,7 +84,10 @@ returns-2 c = rw (decides (held1 (c .before .before)) (failed (c .before .fits2 
 
 returns-3 : tie.Need-returns-3
 unfolding sound
-returns-3 c = rw (decides (held2 (c .before .before .before)) (lt-leb _ _ (rw (c .before .before .width .ensures) at (c .if3 .taken))))
+returns-3 c =
+    let p = start-at-returns-3 c .args .p in
+    let over = lt-leb (p .head .column) (lp2 .width (p .style .pitch)) (omega (arith, c .if3 .taken, c .before .before .width .ensures)) in
+    rw (decides (held2 (c .before .before .before)) over)
 
 returns-4 : tie.Need-returns-4
 unfolding sound

@@ -30,3 +30,6 @@ start-at-fits-requires c = c .before .before .before .before .before
 abbrev pub start-at-place-sound : tie.After-place-sound → tie.Start
 start-at-place-sound c = c .before .before .before .before .before .before .before .before .before .before .before .before .before .before .before
     .before
+
+abbrev pub start-at-returns-3 : tie.Then3 → tie.Start
+start-at-returns-3 c = c .before .before .before .before .before .before .before .before .before .before
