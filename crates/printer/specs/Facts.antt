@@ -18,12 +18,13 @@ use Rattle.printer.specs.declared.Printer.{Printer}
 use Rattle.printer.specs.Sound.{at-most-escape, begun}
 use Rattle.printer.specs.Tabs.{line-tabs}
 
+-- a form with lines and a spacing in range
 pub record SoundForm (e : Edition) (f : Form) : Type 0 where
   pub some : 1 ≤ f .lines
   pub most : f .lines ≤ e .longest
   pub spacing : spacing-allowed (f .spacing) ≡ true
 
--- a head on a form, on a line of some columns
+-- a head whose nine wires stay on the form, on a line of some columns; a fresh line is at column 0 and no plot line
 pub record SoundHead (f : Form) (width : ℕ) (h : Head) : Type 0 where
   pub row : h .row .0 + 9 ≤ form-rows f
   pub column : h .column ≤ width
@@ -33,6 +34,7 @@ pub record SoundHead (f : Form) (width : ℕ) (h : Head) : Type 0 where
 pub record SoundTabs (lines : ℕ) (tabs : List Bool) : Type 0 where
   pub inside : (i : ℕ) → T (getD tabs i false) → i < lines
 
+-- no more payload is taken than counted
 abbrev pub SoundLoad : Pending → Type 0
 SoundLoad Nothing = Unit {0}
 SoundLoad (Escape place) = Unit {0}
@@ -46,10 +48,12 @@ SoundLoad (AddressHigh place count) = Unit {0}
 SoundLoad (AddressLow place count high) = Unit {0}
 SoundLoad (Payload place load) = load .taken ≤ load .count
 
+-- a started command's place is below the job length
 abbrev pub SoundPlace : ℕ → Begun → Type 0
 SoundPlace job Nowhere = Unit {0}
 SoundPlace job (At place) = place < job
 
+-- plot mode holds only on a plot line, with no command begun but a lone ESC
 abbrev pub SoundPlot : Head → Pending → Type 0
 SoundPlot h q = T (h .plotting) → (h .plotted ≡ true) × (at-most-escape q ≡ true)
 

@@ -1,4 +1,4 @@
--- What the functions of src/ ask of the state and of what they are lent. A sound state with memory of its lengths has it all.
+-- What the functions of src/ ask of the state and of what they are lent. A machine that is ready, with a font of its length, has it all.
 use Prim.Native.Nat.{ℕ, _≤_}
 use mathlib.Core.List.{List}
 use mathlib.Core.Path.{_≡_}
@@ -35,11 +35,6 @@ pub record Room (p : Printer) (pg ln sg st font : List ℕ) : Type 0 where
   pub store : length st ≡ 2048
   pub resident : length font ≡ 2048
 
--- a tabbed line that was found is one that the state has a place for
-abbrev pub Kept : NextTab → Type 0
-Kept (Tabbed n) = (1 ≤ n .0) × (n .0 ≤ 128)
-Kept Untabbed = Unit {0}
-
 -- the lengths of what is lent for a form
 pub record Sized (e : Edition) (f : Form) (pg ln sg st : List ℕ) : Type 0 where
   pub page : length pg ≡ page-bytes e f
@@ -51,3 +46,8 @@ pub record Sized (e : Edition) (f : Form) (pg ln sg st : List ℕ) : Type 0 wher
 pub record Ready (e : Edition) (m : Machine) : Type 0 where
   pub printer : Sound e (m .printer)
   pub memory : Sized e (m .printer .form) (m .page) (m .line) (m .staging) (m .store)
+
+-- a tabbed line that was found is one that the state has a place for
+abbrev pub Kept : NextTab → Type 0
+Kept (Tabbed n) = (1 ≤ n .0) × (n .0 ≤ 128)
+Kept Untabbed = Unit {0}
