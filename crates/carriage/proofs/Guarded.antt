@@ -18,6 +18,7 @@ module _ (m : Machine) where
   unfolding guarded
   obeyed h e = rw h e
 
-  pub stopped : (s : Step) {r : Stepped} → fits (m .printer .form) (m .printer .head .row) ≡ false → r ≡ stepped (m .printer) Guard → over m r ≡ guarded m s
+  pub stopped : (s : Step) {r : Stepped} → fits (m .printer .form) (m .printer .head .row) ≡ false → r ≡ stepped (m .printer) Guard
+      → over m r ≡ guarded m s
   unfolding guarded
   stopped s h said = rw h (ap (over m) said)

@@ -31,7 +31,8 @@ done m said moved inked emptied = rw (said, moved, inked, emptied)
 
 module _ (m : Machine) (fit : Fits m) where
   module _ {rows : ℕ} {next : Row}
-      (advance : rows ≡ cond (m .printer .head .plotted) 7 (rows-per-line (m .printer .form .spacing))) (down : next ≡ lower rows (m .printer .head .row)) where
+      (advance : rows ≡ cond (m .printer .head .plotted) 7 (rows-per-line (m .printer .form .spacing)))
+      (down : next ≡ lower rows (m .printer .head .row)) where
     pub line-down : {s : Step} → s ≡ quiet (strike lp2 next m) → fits (m .printer .form) next ≡ true → s ≡ newline lp2 m
     unfolding newline
     line-down e h = obeyed m fit (simp (← advance, ← down, h) e)
@@ -41,7 +42,8 @@ module _ (m : Machine) (fit : Fits m) where
     form-over e h = obeyed m fit (simp (← advance, ← down, h) e)
 
   pub tabbed-to : {s : Step} {n : Line} {below lowest : NextTab} → s ≡ tab-to lp2 below lowest m → n ≡ current-line m →
-      below ≡ first-tab (next-line n) (drop (lines-through n) (line-tabs (m .printer .tabs))) → lowest ≡ first-tab first-line (line-tabs (m .printer .tabs)) →
+      below ≡ first-tab (next-line n) (drop (lines-through n) (line-tabs (m .printer .tabs))) →
+      lowest ≡ first-tab first-line (line-tabs (m .printer .tabs)) →
       s ≡ vertical-tab lp2 m
   unfolding vertical-tab
   tabbed-to e current under first = obeyed m fit (simp (← current, ← under, ← first) e)

@@ -91,7 +91,8 @@ pub fn newline(p: Printer, page: &mut [u8], line: &mut [u16]) -> Stepped
 pub fn form_feed(p: Printer, page: &mut [u8], line: &mut [u16]) -> Stepped
     requires { ⌜ Strikable p (now page) (now line) ⌝ }
     ensures { λ r. ⌜ ((staging store : List ℕ)
-        → given r (now (page .exit)) (now (line .exit)) staging store ≡ form-feed lp2 (machine p (now (page .entry)) (now (line .entry)) staging store)) ⌝ }
+        → given r (now (page .exit)) (now (line .exit)) staging store
+        ≡ form-feed lp2 (machine p (now (page .entry)) (now (line .entry)) staging store)) ⌝ }
 {
     let form = p.form;
     let row = p.head.row;
@@ -158,7 +159,8 @@ fn tab_to(p: Printer, below: NextTab, lowest: NextTab, page: &mut [u8], line: &m
 pub fn vertical_tab(p: Printer, page: &mut [u8], line: &mut [u16]) -> Stepped
     requires { ⌜ Strikable p (now page) (now line) ⌝ }
     ensures { λ r. ⌜ ((staging store : List ℕ)
-        → given r (now (page .exit)) (now (line .exit)) staging store ≡ vertical-tab lp2 (machine p (now (page .entry)) (now (line .entry)) staging store)) ⌝ }
+        → given r (now (page .exit)) (now (line .exit)) staging store
+        ≡ vertical-tab lp2 (machine p (now (page .entry)) (now (line .entry)) staging store)) ⌝ }
 {
     let form = p.form;
     let row = p.head.row;

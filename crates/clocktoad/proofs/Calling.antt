@@ -136,7 +136,8 @@ module _ (state told : List ℕ) where
       unfolding close-call
       close-10 q = simp (eq-eqb (length state) 20 l, eq-eqb (length told) 4 k, q)
 
-      pub closes : (c : Closing) {p : Printer} → is-state state ≡ true → p ≡ state-of state → c ≡ closing lp2 p → closing-words c told ≡ at-close
+      pub closes : (c : Closing) {p : Printer} → is-state state ≡ true → p ≡ state-of state → c ≡ closing lp2 p
+          → closing-words c told ≡ at-close
       unfolding close-call
       closes c q p e = simp (eq-eqb (length state) 20 l, eq-eqb (length told) 4 k, q, e, p)
 

@@ -49,7 +49,8 @@ module _ (e : Edition) (m : Machine) where
   tab-to-page Untabbed Untabbed = refl
 
   -- a terminator strikes the line, where the guard lets it
-  guarded-page : (s : Step) → Leaves inked s → (t : Bool) → fits (m .printer .form) (m .printer .head .row) ≡ t → Leaves (cond t inked (m .page)) (guarded m s)
+  guarded-page : (s : Step) → Leaves inked s → (t : Bool) → fits (m .printer .form) (m .printer .head .row) ≡ t
+      → Leaves (cond t inked (m .page)) (guarded m s)
   unfolding guarded
   guarded-page s h true q = rw q h
   guarded-page s h false q = rw q refl
@@ -100,7 +101,8 @@ module _ (e : Edition) (m : Machine) where
       leaves-test (eqb b 0x0c) _ _ (λ q. ends-line _ b (rw (q₁, q₂, q)) refl)
       (λ q₃.
       leaves-test (eqb b 0x0d) _ _ (λ q. ends-line _ b (rw (q₁, q₂, q₃, q)) refl)
-      (λ q₄. stays _ b (none b (eqb-false _ _ q₁) (eqb-false _ _ q₂) (eqb-false _ _ q₃) (eqb-false _ _ q₄)) (leaves-cond (ltb b 0x80) _ _ refl refl)))))))
+      (λ q₄. stays _ b (none b (eqb-false _ _ q₁) (eqb-false _ _ q₂) (eqb-false _ _ q₃) (eqb-false _ _ q₄))
+      (leaves-cond (ltb b 0x80) _ _ refl refl)))))))
 
 -- A byte, by what is pending: only where nothing is, and outside plot mode, it may be a terminator.
 module _ (e : Edition) (font : List ℕ) (b here : ℕ) (m : Machine) where

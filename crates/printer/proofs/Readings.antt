@@ -154,7 +154,8 @@ module _ (e : Edition) (font : List ℕ) where
       (same rest (o .machine) short (ap (λ (k : Kept). k .pending) (obey-keeps e font c (m .printer .job) (with-job j m) refl) ∙ h))
   read-cut-same f g unfinished bs m short h same = refl
 
-  run-read : (commands : ℕ) (bs : List ℕ) (m : Machine) → length bs ≤ commands → m .printer .pending ≡ Nothing → run e font bs m ≡ read e font commands bs m
+  run-read : (commands : ℕ) (bs : List ℕ) (m : Machine) → length bs ≤ commands → m .printer .pending ≡ Nothing
+      → run e font bs m ≡ read e font commands bs m
   unfolding read run
   run-read zero [] m l h = refl
   run-read zero (b ∷ bs) m l h = absurd (omega arith)

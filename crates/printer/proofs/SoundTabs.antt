@@ -35,7 +35,8 @@ module _ {lines : ℕ} {tabs : List Bool} (h : SoundTabs lines tabs) where
   tab-set : (on : Bool) (k : ℕ) → k < lines → SoundTabs lines (set tabs k on)
   tab-set on k l = record { inside = λ i t. set-inside on k l i (eqb i k) refl t }
 
-pub tab-put : {lines : ℕ} (t : TabSet) → SoundTabs lines (line-tabs t) → (on : Bool) (k : ℕ) → k < lines → SoundTabs lines (line-tabs (with-tab on k t))
+pub tab-put : {lines : ℕ} (t : TabSet) → SoundTabs lines (line-tabs t) → (on : Bool) (k : ℕ) → k < lines
+    → SoundTabs lines (line-tabs (with-tab on k t))
 tab-put {lines} t h on k l = subst (λ (tabs : List Bool). SoundTabs lines tabs) (sym (put-tab on k t)) (tab-set h on k l)
 
 -- a stop is a line of the form

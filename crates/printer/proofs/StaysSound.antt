@@ -228,7 +228,8 @@ module _ {e : Edition} {m : Machine} (h : Ready e m) where
   ended-ready : Ready e (ended m)
   ended-ready = let q : SoundPlot (m .printer .head) Nothing = λ t. (h .printer .plot t .0, refl) in search
 
-  waiting-ready : (q : Pending) → SoundLoad q → SoundPlace (m .printer .job) (begun q) → (T (m .printer .head .plotting) → ⊥) → Ready e (with-pending q m)
+  waiting-ready : (q : Pending) → SoundLoad q → SoundPlace (m .printer .job) (begun q) → (T (m .printer .head .plotting) → ⊥)
+      → Ready e (with-pending q m)
   waiting-ready q load place off =
       let plot : SoundPlot (m .printer .head) q = λ t. absurd (off t) in
       search

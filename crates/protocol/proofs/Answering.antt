@@ -45,7 +45,8 @@ module _ (e : Edition) (font : List ℕ) where
   stopped-taking : (n : ℕ) (a : Answer) (m : Machine) → refusal a ≡ false → (a ≡ Done → 0 ≡ n) → Taking n m (stopped a m)
   stopped-taking n a m q all = record { allowed = q; counted = omega arith; within = omega arith; all = all }
 
-  heard-taking : (n : ℕ) (v : Event) (m x : Machine) (f : Feeding) → x .printer .job ≡ m .printer .job + 1 → Taking n x f → Taking (suc n) m (heard v m x f)
+  heard-taking : (n : ℕ) (v : Event) (m x : Machine) (f : Feeding) → x .printer .job ≡ m .printer .job + 1 → Taking n x f
+      → Taking (suc n) m (heard v m x f)
   unfolding heard refusal
   heard-taking n event.Quiet m x f q k =
       record { allowed = k .allowed; counted = omega (arith, k .counted); within = omega (arith, k .within); all = λ d. ap suc (k .all d) }

@@ -92,7 +92,8 @@ module _ (e : Edition) (font : List ℕ) where
         )
 
 -- from any machine that is ready and has nothing pending, for bytes that fit the job
-pub any-cutting-from : {e : Edition} {m : Machine} → Ready e m → m .printer .pending ≡ Nothing → (font : List ℕ) → length font ≡ 2048 → (pieces : List (List ℕ))
+pub any-cutting-from : {e : Edition} {m : Machine} → Ready e m → m .printer .pending ≡ Nothing → (font : List ℕ) → length font ≡ 2048
+    → (pieces : List (List ℕ))
     → m .printer .job + length (joined pieces) ≤ limit → delivery e (feeding e font) pieces m ≡ delivered (reading e font (joined pieces) m)
 any-cutting-from {e} {m} h idle font sized pieces l =
     delivery-run e font sized pieces m (record { ready = h; fits = l }) ∙ ap delivered (run-reading e font (joined pieces) m idle)

@@ -132,5 +132,6 @@ feeding-black {e} proper font piece m r g on-row =
     go (s ∷ ss) on (inr l) = strikes-black proper (m .printer .form) r g on-row (s ∷ ss) (m .page) on l
 
 -- no feeding turns a black dot white, whatever the state and the memory lent
-pub feeding-stays-black : (e : Edition) (font piece : List ℕ) (m : Machine) (d : ℕ) → Black (m .page) d → Black (feeding e font piece m .machine .page) d
+pub feeding-stays-black : (e : Edition) (font piece : List ℕ) (m : Machine) (d : ℕ) → Black (m .page) d
+    → Black (feeding e font piece m .machine .page) d
 feeding-stays-black e font piece m d h = rw (feeding-page e font piece m) (strikes-stay-black e (feeding-strikes e font piece m) (m .page) d h)

@@ -64,14 +64,16 @@ module _ (font : List ℕ) (sized : length font ≡ 2048) where
       simp append-nil at
       (any-cutting-from (start-ready (c .row) (c .plotted) (leb-true _ _ (t .0))) refl font sized (c .job ∷ []) (simp append-nil (omega arith)))
 
-  found-same : (cs : List Case) → all-fed cs ≡ true → map (found (λ (job : List ℕ) (m : Machine). outcome (whole job m))) cs ≡ map (found (reading lp2 font)) cs
+  found-same : (cs : List Case) → all-fed cs ≡ true
+      → map (found (λ (job : List ℕ) (m : Machine). outcome (whole job m))) cs ≡ map (found (reading lp2 font)) cs
   unfolding found
   found-same [] q = refl
   found-same (c ∷ cs) q =
       let t = and-eq-true-iff _ _ .0 q in
       rw (one-piece c (t .0), found-same cs (t .1))
 
-  done-all : (cs : List Case) → all-fed cs ≡ true → map (λ (c : Case). whole (c .job) (start (c .row) (c .plotted)) .answer) cs ≡ map (λ (c : Case). Done) cs
+  done-all : (cs : List Case) → all-fed cs ≡ true
+      → map (λ (c : Case). whole (c .job) (start (c .row) (c .plotted)) .answer) cs ≡ map (λ (c : Case). Done) cs
   done-all [] q = refl
   done-all (c ∷ cs) q =
       let t = and-eq-true-iff _ _ .0 q in

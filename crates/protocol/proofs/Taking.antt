@@ -87,7 +87,8 @@ module _ (font piece : List ℕ) (i : ℕ) (m : Machine) where
         (ap (more i) (heard-quiet (s .event) m (s .machine) rest q) ∙ ap (λ (n : ℕ). with-taken n rest) e)
 
     pub taken-out : is-quiet (s .event) ≡ false → Allowed (s .event) → (p : Printer)
-        → left ≡ given-feeding (answer-to (s .event) p (s .machine .printer) i) (s .machine .page) (s .machine .line) (s .machine .staging) (s .machine .store)
+        → left
+        ≡ given-feeding (answer-to (s .event) p (s .machine .printer) i) (s .machine .page) (s .machine .line) (s .machine .staging) (s .machine .store)
     unfolding take-bytes
     taken-out n a p =
         simp (drop-cons piece i 0 h, lt-ltb _ _ room, ← is)

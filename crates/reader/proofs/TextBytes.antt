@@ -22,7 +22,8 @@ module _ (e : Edition) (font : List ℕ) (b place : ℕ) (m : Machine) where
 
   -- none of the named bytes below 20
   pub unnamed : {r : Stepped} → r ≡ stepped (m .printer) (Noted UnnamedControl place)
-      → b < 0x20 → (b ≡ 0 → ⊥) → (b ≡ 7 → ⊥) → (b ≡ 0x0a → ⊥) → (b ≡ 0x0b → ⊥) → (b ≡ 0x0c → ⊥) → (b ≡ 0x0d → ⊥)
+      → b < 0x20 → (b ≡ 0 → ⊥) → (b ≡ 7 → ⊥) → (b ≡ 0x0a → ⊥) → (b ≡ 0x0b → ⊥)
+      → (b ≡ 0x0c → ⊥) → (b ≡ 0x0d → ⊥)
       → over m r ≡ text-byte e font b place m
   unfolding text-byte
   unnamed said h n₀ n₁ n₂ n₃ n₄ n₅ =
@@ -56,7 +57,8 @@ module _ (e : Edition) (font : List ℕ) (b place : ℕ) (m : Machine) where
         le-ltb b 0x80 (omega arith),
       )
 
-  pub does-nothing : {r : Stepped} → r ≡ stepped (m .printer) Quiet → (b ≡ 0) ⊎ ((b ≡ 7) ⊎ (b ≡ 0x7f)) → over m r ≡ text-byte e font b place m
+  pub does-nothing : {r : Stepped} → r ≡ stepped (m .printer) Quiet → (b ≡ 0) ⊎ ((b ≡ 7) ⊎ (b ≡ 0x7f))
+      → over m r ≡ text-byte e font b place m
   unfolding text-byte
   does-nothing said (inl q) = rw (said, q)
   does-nothing said (inr (inl q)) = rw (said, q)

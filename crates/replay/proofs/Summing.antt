@@ -18,7 +18,8 @@ unfolding sum-on
 summed bs i a b h = simp (drop-of-length-le bs h)
 
 -- a number more, as two bytes
-pub numbers-more : (ns : List ℕ) (i a b : ℕ) {x y a' b' a″ b″ : ℕ} → i < length ns → x ≡ getD ns i 0 / 256 → y ≡ getD ns i 0 % 256 → a' ≡ (a + x) % 65521
+pub numbers-more : (ns : List ℕ) (i a b : ℕ) {x y a' b' a″ b″ : ℕ} → i < length ns → x ≡ getD ns i 0 / 256 → y ≡ getD ns i 0 % 256
+    → a' ≡ (a + x) % 65521
     → b' ≡ (b + a') % 65521 → a″ ≡ (a' + y) % 65521 → b″ ≡ (b' + a″) % 65521
     → sum-on (two-bytes (drop i ns)) a b ≡ sum-on (two-bytes (drop (i + 1) ns)) a″ b″
 unfolding sum-on two-bytes

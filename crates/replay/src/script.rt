@@ -126,7 +126,8 @@ fn feed_piece(
 // Where a piece ends whose length stands at a place: that many bytes after the length's two, or with the script.
 fn piece_end(pieces: &[u8], at: usize) -> usize
     requires { ⌜ at + 2 ≤ length (now pieces) ⌝ }
-    ensures { λ r. ⌜ r ≡ min (at + 2 + (getD (now (pieces .entry)) at 0 * 256 + getD (now (pieces .entry)) (at + 1) 0)) (length (now (pieces .entry))) ⌝ }
+    ensures { λ r. ⌜ r ≡ min (at + 2 + (getD (now (pieces .entry)) at 0 * 256 + getD (now (pieces .entry)) (at + 1) 0))
+        (length (now (pieces .entry))) ⌝ }
 {
     let bytes = wide(pieces[at]) * 256 + wide(pieces[at + 1]);
     let end = at + 2 + bytes;

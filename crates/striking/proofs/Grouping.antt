@@ -121,7 +121,8 @@ wire-joined page columns at z skip k w eight room h e =
     let alone : bitAnd (w / 2 ^ k) (ones base 8) ≡ lone base (skip + k) columns 0 =
     ap₂ (λ (v m : ℕ). bitAnd (v / 2 ^ k) (ones base m)) e (sym eight ∙ sym (zero-add (length columns)))
     ∙ fields-lone (suc z) skip k h columns 0 0 0 start in
-    let count : suc z * 8 ≡ length columns * suc z + 0 = mul-comm (suc z) 8 ∙ ap (λ (m : ℕ). m * suc z) (sym eight) ∙ sym (add-zero (length columns * suc z)) in
+    let count : suc z * 8 ≡ length columns * suc z + 0 =
+    mul-comm (suc z) 8 ∙ ap (λ (m : ℕ). m * suc z) (sym eight) ∙ sym (add-zero (length columns * suc z)) in
     ap₂ (λ (v m : ℕ). join page at (suc z) (v * m)) alone top
     ∙ joined page at (suc z) (lone base (skip + k) columns 0 * 2 ^ z) room
     ∙ ap (λ (m : ℕ). blacken-all page (bit-marks (at * 8) m (lone base (skip + k) columns 0 * 2 ^ z) [])) count
@@ -170,7 +171,8 @@ unfolding dot-at lp2
 dot-after r g h s e = omega arith
 
 -- columns struck row by row are struck column by column
-pub rows-line : (pitch : Pitch) (s : ℕ) → ((c : ℕ) → lp2 .grid pitch (c + 1) .0 ≡ lp2 .grid pitch c .0 + s) → (page columns : List ℕ) (r : Row) (c d : ℕ)
+pub rows-line : (pitch : Pitch) (s : ℕ) → ((c : ℕ) → lp2 .grid pitch (c + 1) .0 ≡ lp2 .grid pitch c .0 + s)
+    → (page columns : List ℕ) (r : Row) (c d : ℕ)
     → d ≡ dot-at lp2 r (lp2 .grid pitch c) → blacken-all page (rows 9 columns d s) ≡ blacken-all page (line-marks lp2 columns pitch r c)
 unfolding line-marks column-marks
 rows-line pitch s apart page [] r c d e = ap (blacken-all page) (rows-none 9 d s)
@@ -217,7 +219,8 @@ unfolding column-marks wire-marks mark-if bit
 no-dots r g = refl
 
 -- columns with no wire set may be passed over
-pub none-set : (columns page : List ℕ) (pitch : Pitch) (r : Row) (c : ℕ) → any-wires columns ≡ 0 → page ≡ blacken-all page (line-marks lp2 columns pitch r c)
+pub none-set : (columns page : List ℕ) (pitch : Pitch) (r : Row) (c : ℕ) → any-wires columns ≡ 0
+    → page ≡ blacken-all page (line-marks lp2 columns pitch r c)
 unfolding any-wires line-marks blacken-all
 none-set [] page pitch r c q = refl
 none-set (column ∷ columns) page pitch r c q =

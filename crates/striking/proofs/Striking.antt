@@ -80,7 +80,8 @@ line-append (x ∷ xs) ys pitch r c =
     ∙ sym (append-assoc (column-marks lp2 x r (lp2 .grid pitch c)) (line-marks lp2 xs pitch r (c + 1)) (line-marks lp2 ys pitch r (c + length (x ∷ xs))))
 
 -- the columns from c on that are below w are the eight columns from c on and those after them
-eight-first : (line : List ℕ) (w c : ℕ) → w ≤ length line → c + 8 ≤ w → drop c (take w line) ≡ take 8 (drop c line) ++ drop (c + 8) (take w line)
+eight-first : (line : List ℕ) (w c : ℕ) → w ≤ length line → c + 8 ≤ w
+    → drop c (take w line) ≡ take 8 (drop c line) ++ drop (c + 8) (take w line)
 eight-first line w c within inside =
     let low : List ℕ = take w line in
     let size : length low ≡ w = length-take-le w line within in

@@ -11,7 +11,8 @@ use lib.Seq.{drop-cons}
 use Rattle.words.specs.Words.{at-most, is-state, part}
 
 -- one word more of a part
-part-turn : (m k n : ℕ) (ws : List ℕ) → k < length ws → at-most m (take (suc n) (drop k ws)) ≡ (leb (getD ws k 0) m && at-most m (take n (drop (suc k) ws)))
+part-turn : (m k n : ℕ) (ws : List ℕ) → k < length ws
+    → at-most m (take (suc n) (drop k ws)) ≡ (leb (getD ws k 0) m && at-most m (take n (drop (suc k) ws)))
 unfolding at-most
 part-turn m k n ws h = simp (drop-cons ws k 0 h)
 
@@ -49,7 +50,8 @@ first m k n ws h q =
     let both = and-eq-true-iff (leb (getD ws k 0) m) (at-most m (take n (drop (suc k) ws))) .0 (sym (part-turn m k n ws h) ∙ q) in
     (leb-true _ _ (both .0), both .1)
 
-each : (a b c d e f : Bool) → (a && b && c && d && e && f) ≡ true → (a ≡ true) × (b ≡ true) × (c ≡ true) × (d ≡ true) × (e ≡ true) × (f ≡ true)
+each : (a b c d e f : Bool) → (a && b && c && d && e && f) ≡ true
+    → (a ≡ true) × (b ≡ true) × (c ≡ true) × (d ≡ true) × (e ≡ true) × (f ≡ true)
 each a b c d e f q =
     let u = and-eq-true-iff (a && b && c && d && e) f .0 q in
     let v = and-eq-true-iff (a && b && c && d) e .0 (u .0) in

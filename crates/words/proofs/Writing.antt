@@ -49,8 +49,8 @@ wrote-pending old {p = p} e h = (rw e (h .0), subst Ranged (sym e) (narrow-range
 -- the words of a state before those of what is pending, by what was made of what is no number
 abbrev fourteen : Printer → ℕ → ℕ → ℕ → ℕ → ℕ → ℕ → ℕ → List ℕ
 fourteen p fresh plotted plotting pitch elongated underscore downloaded =
-    p .form .lines ∷ p .form .spacing ∷ p .job ∷ p .head .row .0 ∷ p .head .column ∷ fresh ∷ plotted ∷ plotting ∷ pitch ∷ elongated ∷ underscore ∷ downloaded
-    ∷ p .tabs .low ∷ p .tabs .high ∷ []
+    p .form .lines ∷ p .form .spacing ∷ p .job ∷ p .head .row .0 ∷ p .head .column ∷ fresh ∷ plotted ∷ plotting
+    ∷ pitch ∷ elongated ∷ underscore ∷ downloaded ∷ p .tabs .low ∷ p .tabs .high ∷ []
 
 pub wrote-state : (p : Printer) (old : List ℕ) {new : List ℕ} {fresh plotted plotting pitch elongated underscore downloaded : ℕ} → length old ≡ 20
     → p .job ≤ 4294967295
@@ -61,7 +61,8 @@ pub wrote-state : (p : Printer) (old : List ℕ) {new : List ℕ} {fresh plotted
     → elongated ≡ truth (p .style .elongated)
     → underscore ≡ truth (p .style .underscore)
     → downloaded ≡ truth (p .style .downloaded)
-    → (new ≡ take 14 (sets old 0 (fourteen p fresh plotted plotting pitch elongated underscore downloaded)) ++ pending-words (p .pending)) × Ranged (p .pending)
+    → (new ≡ take 14 (sets old 0 (fourteen p fresh plotted plotting pitch elongated underscore downloaded)) ++ pending-words (p .pending))
+    × Ranged (p .pending)
     → (new ≡ state-words p) × (is-state new ≡ true)
 unfolding state-words
 wrote-state p old {new} {fresh} {plotted} {plotting} {pitch} {elongated} {underscore} {downloaded} l j a b c d e f g h =

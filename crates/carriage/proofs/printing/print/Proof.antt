@@ -41,5 +41,5 @@ returns-3 c page staging =
 pub print-spec : {M : Type 1} → statement M
 print-spec =
     tie.close
-    (tie.spec (λ c κs. search needs) returns (λ c κs. search needs) add-next (λ c κs. search needs) draw-requires (λ c κs. search needs) (λ c κs. search needs)
-    (λ c κs. search needs) (λ c. search needs) returns-2 returns-3)
+    (tie.spec (λ c κs. search needs) returns (λ c κs. search needs) add-next (λ c κs. search needs) draw-requires (λ c κs. search needs)
+    (λ c κs. search needs) (λ c κs. search needs) (λ c. search needs) returns-2 returns-3)

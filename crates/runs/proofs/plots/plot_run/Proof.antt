@@ -85,7 +85,7 @@ loop-again c =
 pub plot-run-spec : {M : Type 1} → statement M
 plot-run-spec =
     tie.close
-    (tie.spec Inv-loop μ-loop (λ c κs. search needs) loop-holds (λ c. inside (c .before)) (λ c κs. search needs) (λ c. loop-at-returns c .loop .inv .kept)
-    returns (λ c κs. search needs) or-in-requires add-next
+    (tie.spec Inv-loop μ-loop (λ c κs. search needs) loop-holds (λ c. inside (c .before)) (λ c κs. search needs)
+    (λ c. loop-at-returns c .loop .inv .kept) returns (λ c κs. search needs) or-in-requires add-next
     (λ c. omega (arith, room (in-loop-at-loop-again c))) (λ c. omega (arith, inside (in-loop-at-loop-again c), start-at-loop-again c))
     (λ c. omega (arith, in-loop-at-loop-again c .loop-test)) loop-again (λ c. c .before .loop .inv .kept) (λ c. c .before .loop .inv .leads))
