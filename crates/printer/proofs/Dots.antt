@@ -3,21 +3,25 @@ use Prim.Native.Nat.{ℕ, _+_, _*_, _≤_, _<_}
 use mathlib.Core.Bool.{Bool, true, false, cond}
 use mathlib.Core.List.{List, [], _∷_, _++_}
 use mathlib.Core.Logic.{_⊎_, inl, inr, ⊎-elim, _↔_}
-use mathlib.Core.Path.{_≡_, refl, _∙_}
+use mathlib.Core.Path.{_≡_, refl, sym, subst, _∙_}
 use native.Mathlib.Nat.{mul-le-mul-right}
 use native.Mathlib.Omega.{arith}
 use lib.ListN.{length}
 use Rattle.sheet.specs.declared.Form.{Form}
 use Rattle.sheet.specs.declared.Grid.{Grid}
 use Rattle.sheet.specs.declared.Row.{Row}
-use Rattle.sheet.specs.Dots.{Black, dot-at, struck}
+use Rattle.sheet.specs.Dots.{Black, OnForm, blacken-all, dot-at, marks, struck}
 use Rattle.sheet.specs.Edition.{Edition}
 use Rattle.sheet.specs.Form.{form-rows, page-bytes}
 use Rattle.sheet.proofs.Editions.{Proper}
-use Rattle.sheet.proofs.Struck.{length-struck, struck-black, struck-stays-black}
+use Rattle.sheet.proofs.Blackening.{In, blacken-all-append, in-append}
+use Rattle.sheet.proofs.Struck.{length-struck, marks-on-form, on-page, struck-black, struck-stays-black}
+use Rattle.printer.specs.Bytes.{run}
 use Rattle.printer.specs.Machine.{Machine}
-use Rattle.printer.specs.Strikes.{PutBy, Strike, in-progress, strike-all, strikes, strikes-of}
 use Rattle.printer.specs.Room.{Ready}
+use Rattle.printer.specs.Strikes.{PutBy, Strike, in-progress, put-down, strike-all, strikes, strikes-of}
+use Rattle.printer.proofs.Keeping.{run-counts}
+use Rattle.printer.proofs.StaysSound.{run-ready}
 
 pub strike-all-append : (e : Edition) (xs ys : List Strike) (page : List ℕ) → strike-all e (xs ++ ys) page ≡ strike-all e ys (strike-all e xs page)
 unfolding strike-all
@@ -30,31 +34,62 @@ unfolding strike-all
 strikes-stay-black e [] page d h = h
 strikes-stay-black e (s ∷ ss) page d h = strikes-stay-black e ss _ d (struck-stays-black e page (s .line) (s .row) (s .pitch) d h)
 
--- a strike that stays on a form: its line fills the store, and its nine rows are rows of the form
-pub record OnForm (e : Edition) (f : Form) (s : Strike) : Type 0 where
+-- a strike that fits a form: its line fills the store, and its nine rows are rows of the form
+pub record Fitting (e : Edition) (f : Form) (s : Strike) : Type 0 where
   pub full : length (s .line) ≡ e .columns
   pub inside : s .row .0 + 9 ≤ form-rows f
 
-abbrev pub AllOnForm : Edition → Form → List Strike → Type 0
-AllOnForm e f [] = Unit {0}
-AllOnForm e f (s ∷ ss) = OnForm e f s × AllOnForm e f ss
+abbrev pub AllFitting : Edition → Form → List Strike → Type 0
+AllFitting e f [] = Unit {0}
+AllFitting e f (s ∷ ss) = Fitting e f s × AllFitting e f ss
 
-pub on-form-append : (e : Edition) (f : Form) (xs ys : List Strike) → AllOnForm e f xs → AllOnForm e f ys → AllOnForm e f (xs ++ ys)
-on-form-append e f [] ys h k = k
-on-form-append e f (x ∷ xs) ys h k = (h .0, on-form-append e f xs ys (h .1) k)
+pub fitting-append : (e : Edition) (f : Form) (xs ys : List Strike) → AllFitting e f xs → AllFitting e f ys → AllFitting e f (xs ++ ys)
+fitting-append e f [] ys h k = k
+fitting-append e f (x ∷ xs) ys h k = (h .0, fitting-append e f xs ys (h .1) k)
 
--- the line that a byte strikes stays on the form
-pub strikes-on-form : {e : Edition} {m : Machine} → Ready e m → (b : ℕ) → AllOnForm e (m .printer .form) (strikes-of b m)
+-- the line that a byte strikes fits the form
+pub strikes-fitting : {e : Edition} {m : Machine} → Ready e m → (b : ℕ) → AllFitting e (m .printer .form) (strikes-of b m)
 unfolding strikes-of
-strikes-on-form {e} {m} h b = go (strikes b m)
+strikes-fitting {e} {m} h b = go (strikes b m)
   where
-    go : (t : Bool) → AllOnForm e (m .printer .form) (cond t (in-progress m ∷ []) [])
+    go : (t : Bool) → AllFitting e (m .printer .form) (cond t (in-progress m ∷ []) [])
     go true = (record { full = h .memory .line; inside = h .printer .head .row }, tt)
     go false = tt
 
+-- strikes blacken the dots that they put down, and no other
+pub strikes-put-down : (e : Edition) (ss : List Strike) (page : List ℕ) → strike-all e ss page ≡ blacken-all page (put-down e ss)
+unfolding strike-all put-down struck blacken-all
+strikes-put-down e [] page = refl
+strikes-put-down e (s ∷ ss) page =
+    strikes-put-down e ss (struck e page (s .line) (s .row) (s .pitch))
+    ∙ sym (blacken-all-append page (marks e (s .line) (s .row) (s .pitch)) (put-down e ss))
+
+module _ {e : Edition} (proper : Proper e) where
+  -- the dots that fitting strikes put down lie on the form
+  pub fitting-on-form : (f : Form) (ss : List Strike) → AllFitting e f ss → (d : ℕ) → In d (put-down e ss) → OnForm e f d
+  unfolding put-down
+  fitting-on-form f [] h d p = absurd p
+  fitting-on-form f (s ∷ ss) h d p =
+      ⊎-elim (marks-on-form proper (s .line) (h .0 .full) (s .row) (s .pitch) f (h .0 .inside) d) (fitting-on-form f ss (h .1) d)
+      (in-append d (marks e (s .line) (s .row) (s .pitch)) (put-down e ss) p)
+
+  -- THE LAW: every dot that a byte puts down in a machine that is ready lies on a row of the form, within the bits of the page
+  pub byte-on-form : {m : Machine} → Ready e m → (b d : ℕ) → In d (put-down e (strikes-of b m))
+      → OnForm e (m .printer .form) d × (d < 8 * length (m .page))
+  byte-on-form {m} h b d p =
+      let on : OnForm e (m .printer .form) d = fitting-on-form (m .printer .form) (strikes-of b m) (strikes-fitting h b) d p in
+      (on, omega (arith, on-page on, h .memory .page))
+
+  -- and so does every dot that a byte puts down after any others
+  pub job-on-form : {m : Machine} → Ready e m → (font before : List ℕ) (b d : ℕ) → In d (put-down e (strikes-of b (run e font before m .machine)))
+      → OnForm e (m .printer .form) d × (d < 8 * length (run e font before m .machine .page))
+  job-on-form {m} h font before b d p =
+      let on = byte-on-form (run-ready font before h) b d p in
+      (subst (λ (f : Form). OnForm e f d) (run-counts e font before m .0) (on .0), on .1)
+
 -- A dot is black after some strikes exactly where it was black before them or one of them put it there.
 module _ {e : Edition} (proper : Proper e) (f : Form) (r : Row) (g : Grid) (on-row : g .0 < 8 * e .bytes) where
-  pub strikes-black : (ss : List Strike) (page : List ℕ) → AllOnForm e f ss → length page ≡ page-bytes e f
+  pub strikes-black : (ss : List Strike) (page : List ℕ) → AllFitting e f ss → length page ≡ page-bytes e f
       → Black (strike-all e ss page) (dot-at e r g) ↔ (Black page (dot-at e r g) ⊎ PutBy e ss r g)
   unfolding strike-all page-bytes
   strikes-black [] page h l = (λ p. inl p, λ p. ⊎-elim (λ b. b) (λ q. absurd q) p)

@@ -1,13 +1,13 @@
 -- The lines that bytes strike, as they were struck.
 use Prim.Native.Nat.{ℕ}
 use mathlib.Core.Bool.{Bool, true, false, cond, not, _&&_, _||_}
-use mathlib.Core.List.{List, [], _∷_}
+use mathlib.Core.List.{List, [], _∷_, _++_}
 use lib.Dec.{eqb}
 use mathlib.Core.Logic.{_⊎_}
 use Rattle.sheet.specs.declared.Grid.{Grid}
 use Rattle.sheet.specs.declared.Pitch.{Pitch}
 use Rattle.sheet.specs.declared.Row.{Row}
-use Rattle.sheet.specs.Dots.{Strikes, struck}
+use Rattle.sheet.specs.Dots.{Strikes, marks, struck}
 use Rattle.sheet.specs.Edition.{Edition}
 use Rattle.sheet.specs.Form.{fits}
 use Rattle.printer.specs.declared.Pending.{Pending}
@@ -55,6 +55,11 @@ strikes-of b m = cond (strikes b m) (in-progress m ∷ []) []
 unfoldable pub strike-all : Edition → List Strike → List ℕ → List ℕ
 strike-all e [] page = page
 strike-all e (s ∷ ss) page = strike-all e ss (struck e page (s .line) (s .row) (s .pitch))
+
+-- the dots that some struck lines put down, in order
+unfoldable pub put-down : Edition → List Strike → List ℕ
+put-down e [] = []
+put-down e (s ∷ ss) = marks e (s .line) (s .row) (s .pitch) ++ put-down e ss
 
 -- one of some struck lines put a dot at grid position g of row r
 abbrev pub PutBy : Edition → List Strike → Row → Grid → Type 0

@@ -10,18 +10,20 @@ use lib.ListN.{length}
 use Rattle.sheet.specs.declared.Form.{Form}
 use Rattle.sheet.specs.declared.Grid.{Grid}
 use Rattle.sheet.specs.declared.Row.{Row}
-use Rattle.sheet.specs.Dots.{Black, dot-at}
+use Rattle.sheet.specs.Dots.{Black, OnForm, dot-at}
 use Rattle.sheet.specs.Edition.{Edition}
 use Rattle.sheet.specs.Form.{page-bytes}
+use Rattle.sheet.proofs.Blackening.{In}
 use Rattle.sheet.proofs.Editions.{Proper}
+use Rattle.sheet.proofs.Struck.{on-page}
 use Rattle.printer.specs.declared.Event.{Event}
 use Rattle.printer.specs.declared.Event.the-variants.{Quiet, Finished, Noted, Guard}
 use Rattle.printer.specs.Bytes.{step}
 use Rattle.printer.specs.Machine.{Machine}
 use Rattle.printer.specs.Sound.{sound}
 use Rattle.printer.specs.Steps.{Step}
-use Rattle.printer.specs.Strikes.{PutBy, Strike, strike-all, strikes-of}
-use Rattle.printer.proofs.Dots.{AllOnForm, on-form-append, strike-all-append, strikes-black, strikes-on-form, strikes-stay-black}
+use Rattle.printer.specs.Strikes.{PutBy, Strike, put-down, strike-all, strikes-of}
+use Rattle.printer.proofs.Dots.{AllFitting, fitting-append, fitting-on-form, strike-all-append, strikes-black, strikes-fitting, strikes-stay-black}
 use Rattle.printer.proofs.Keeping.{step-counts}
 use Rattle.printer.proofs.Pages.{step-page}
 use Rattle.printer.specs.Room.{Ready}
@@ -40,25 +42,25 @@ module _ (e : Edition) (font : List ℕ) where
   -- the page that a call leaves, and its strikes on the form
   record Inked (f : Form) (page : List ℕ) (ss : List Strike) (left : Feeding) : Type 0 where
     page-after : left .machine .page ≡ strike-all e ss page
-    on-form : AllOnForm e f ss
+    fitting : AllFitting e f ss
 
   unstruck : (f : Form) (a : Answer) (m : Machine) → Inked f (m .page) [] (stopped a m)
   unfolding strike-all
-  unstruck f a m = record { page-after = refl; on-form = tt }
+  unstruck f a m = record { page-after = refl; fitting = tt }
 
   heard-inked : (f : Form) (page : List ℕ) (ss rest : List Strike) (v : Event) (m n : Machine) (after : Feeding) → Allowed v
-      → AllOnForm e f ss → n .page ≡ strike-all e ss page → Inked f (n .page) rest after
+      → AllFitting e f ss → n .page ≡ strike-all e ss page → Inked f (n .page) rest after
       → Inked f page (ss ++ if-quiet v rest) (heard v m n after)
   unfolding heard if-quiet strike-all
   heard-inked f page ss rest Quiet m n after a on q k =
       record {
         page-after = k .page-after ∙ ap (strike-all e rest) q ∙ sym (strike-all-append e ss rest page);
-        on-form = on-form-append e f ss rest on (k .on-form);
+        fitting = fitting-append e f ss rest on (k .fitting);
       }
   heard-inked f page ss rest Finished m n after a on q k =
-      record { page-after = q ∙ sym (strike-all-append e ss [] page); on-form = on-form-append e f ss [] on tt }
+      record { page-after = q ∙ sym (strike-all-append e ss [] page); fitting = fitting-append e f ss [] on tt }
   heard-inked f page ss rest (Noted g place) m n after a on q k =
-      record { page-after = q ∙ sym (strike-all-append e ss [] page); on-form = on-form-append e f ss [] on tt }
+      record { page-after = q ∙ sym (strike-all-append e ss [] page); fitting = fitting-append e f ss [] on tt }
   heard-inked f page ss rest Guard m n after a on q k = absurd a
 
   inked-if : (f : Form) (m : Machine) (ss : List Strike) (left : Feeding) (t : Bool) → Inked f (m .page) ss left
@@ -74,7 +76,7 @@ module _ (e : Edition) (font : List ℕ) where
       let s : Step = step e font b m in
       inked-if f m _ _ (ltb (m .printer .job) limit)
       (heard-inked f (m .page) (strikes-of b m) _ (s .event) m (s .machine) _ (step-fine h font b .allowed)
-      (subst (λ (g : Form). AllOnForm e g (strikes-of b m)) q (strikes-on-form h b)) (step-page e font b m)
+      (subst (λ (g : Form). AllFitting e g (strikes-of b m)) q (strikes-fitting h b)) (step-page e font b m)
       (taken-inked bs (s .machine) f (step-counts e font b m .0 ∙ q) (step-fine h font b .ready)))
 
   fitted-inked : (piece : List ℕ) (m : Machine) (t : Fit) → fit e (m .printer .form) font m ≡ t → sound e (m .printer) ≡ true
@@ -123,13 +125,26 @@ pub feeding-black : {e : Edition} → Proper e → (font piece : List ℕ) (m : 
     → Black (feeding e font piece m .machine .page) (dot-at e r g) ↔ (Black (m .page) (dot-at e r g) ⊎ PutBy e (feeding-strikes e font piece m) r g)
 unfolding strike-all
 feeding-black {e} proper font piece m r g on-row =
-    rw (feeding-page e font piece m) (go (feeding-strikes e font piece m) (feeding-inked e font piece m .on-form) (feeding-size e font piece m))
+    rw (feeding-page e font piece m) (go (feeding-strikes e font piece m) (feeding-inked e font piece m .fitting) (feeding-size e font piece m))
   where
-    go : (ss : List Strike) → AllOnForm e (m .printer .form) ss → Size e font piece m ss
+    go : (ss : List Strike) → AllFitting e (m .printer .form) ss → Size e font piece m ss
         → Black (strike-all e ss (m .page)) (dot-at e r g) ↔ (Black (m .page) (dot-at e r g) ⊎ PutBy e ss r g)
     go [] on q = (λ p. inl p, λ p. ⊎-elim (λ b. b) (λ t. absurd t) p)
     go (s ∷ ss) on (inl q) = let z : _≡_ {A = ℕ} 0 1 = cc in absurd (omega arith)
     go (s ∷ ss) on (inr l) = strikes-black proper (m .printer .form) r g on-row (s ∷ ss) (m .page) on l
+
+-- every dot that a feeding puts down lies on a row of the form, within the bits of the page, whatever the state and the memory lent
+pub feeding-on-form : {e : Edition} → Proper e → (font piece : List ℕ) (m : Machine) (d : ℕ) → In d (put-down e (feeding-strikes e font piece m))
+    → OnForm e (m .printer .form) d × (d < 8 * length (m .page))
+unfolding put-down
+feeding-on-form {e} proper font piece m d p =
+    let ss : List Strike = feeding-strikes e font piece m in
+    let on : OnForm e (m .printer .form) d = fitting-on-form proper (m .printer .form) ss (feeding-inked e font piece m .fitting) d p in
+    (on, go (feeding-size e font piece m) (on-page on))
+  where
+    go : Size e font piece m (feeding-strikes e font piece m) → d < 8 * page-bytes e (m .printer .form) → d < 8 * length (m .page)
+    go (inl none) l = absurd (subst (λ (ss : List Strike). In d (put-down e ss)) none p)
+    go (inr sized) l = omega arith
 
 -- no feeding turns a black dot white, whatever the state and the memory lent
 pub feeding-stays-black : (e : Edition) (font piece : List ℕ) (m : Machine) (d : ℕ) → Black (m .page) d
