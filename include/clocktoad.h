@@ -41,7 +41,10 @@ extern "C" {
 /* The most bytes that one job can have. */
 #define CLOCKTOAD_JOB_LIMIT UINT64_C(4294967295)
 
-/* Answers of opening and feeding. Closing uses CLOCKTOAD_UNSOUND and the two house numbers too. */
+/*
+ * Answers of opening and feeding. Closing uses CLOCKTOAD_UNSOUND and the two house numbers too.
+ * Document 02 retired 17: no call answers it, and it gets no other meaning.
+ */
 enum clocktoad_answer {
     CLOCKTOAD_OPENED         = 0,  /* opening: the job is open */
     CLOCKTOAD_USED_UP        = 0,  /* feeding: every byte of the piece is taken */
@@ -54,7 +57,6 @@ enum clocktoad_answer {
     CLOCKTOAD_BAD_STAGING    = 13, /* of the staging, */
     CLOCKTOAD_BAD_STORE      = 14, /* of the download store, */
     CLOCKTOAD_BAD_FONT       = 15, /* of the font */
-    CLOCKTOAD_PAST_FORM      = 17, /* a guard: a line would be struck past the form's end */
     CLOCKTOAD_BAD_LINES      = 18, /* opening: lines not 1 to 99 */
     CLOCKTOAD_BAD_SPACING    = 19, /* opening: spacing not 6 or 8 */
     CLOCKTOAD_STATE_LENGTH   = 21, /* house: state_len is not CLOCKTOAD_STATE_WORDS */
@@ -106,7 +108,7 @@ uint64_t clocktoad_open(uint64_t lines, uint64_t spacing,
  * Reads the next bytes of the job, up to the first form finished, the first note, or the end of
  * the piece. The caller offers the bytes from report[0] on again, before any others.
  * Tested in this order: 21, 22, 10, 11 to 15; none of these writes anything.
- * Else 0, 1, 2, 3 or 17, and the report is written. A finished page is not cleared.
+ * Else 0, 1, 2 or 3, and the report is written. A finished page is not cleared.
  * The slices must hold what the call before left in them, but for the page after answer 1.
  */
 uint64_t clocktoad_feed(uint64_t *state, size_t state_len,

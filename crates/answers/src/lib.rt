@@ -98,7 +98,6 @@ pub fn is_quiet(event: Event) -> bool
         Event::Quiet => true,
         Event::Finished => false,
         Event::Noted(_, _) => false,
-        Event::Guard => false,
     }
 }
 
@@ -113,18 +112,17 @@ pub fn given(printer: Printer, answer: Answer, taken: usize) -> Fed
     }
 }
 
-// The answer of a call that has taken n bytes before the one that came to an event. A guard's byte is not taken, and the state is the one before it.
-pub fn answer_to(p: Printer, s: Stepped, n: usize) -> Fed
+// The answer of a call that has taken n bytes before the one that came to an event.
+pub fn answer_to(s: Stepped, n: usize) -> Fed
     requires { ⌜ n + 1 ≤ 18446744073709551615 ⌝ }
-    ensures { λ r. ⌜ r ≡ answer-to (s .event) p (s .printer) n ⌝ }
+    ensures { λ r. ⌜ r ≡ answer-to (s .event) (s .printer) n ⌝ }
 {
-    let after = s.printer;
+    let p = s.printer;
     let event = s.event;
     match event {
-        Event::Quiet => given(after, Answer::Done, n + 1),
-        Event::Finished => given(after, Answer::Finished, n + 1),
-        Event::Noted(fault, place) => given(after, Answer::Noted(fault, place), n + 1),
-        Event::Guard => given(p, Answer::Guarded, n),
+        Event::Quiet => given(p, Answer::Done, n + 1),
+        Event::Finished => given(p, Answer::Finished, n + 1),
+        Event::Noted(fault, place) => given(p, Answer::Noted(fault, place), n + 1),
     }
 }
 

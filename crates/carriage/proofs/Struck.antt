@@ -18,8 +18,7 @@ use Rattle.printer.specs.Given.{given, stepped}
 use Rattle.printer.specs.Machine.{Machine, fresh-head, with-head}
 use Rattle.printer.specs.Steps.{Step, finished, quiet}
 use Rattle.printer.specs.Tabs.{line-tabs}
-use Rattle.printer.specs.Terminators.{current-line, first-tab, newline, no-move, strike, tab-to, vertical-tab}
-use Rattle.carriage.proofs.Guarded.{Fits, obeyed}
+use Rattle.printer.specs.Terminators.{carriage-return, current-line, first-tab, newline, strike, tab-to, vertical-tab}
 
 -- a line struck and the head on a fresh one, whatever is said of it
 pub done : (m : Machine) {next : Row} {r : Stepped} {q : Printer} {v : Event} {page line : List ℕ} →
@@ -29,24 +28,24 @@ pub done : (m : Machine) {next : Row} {r : Stepped} {q : Printer} {v : Event} {p
 unfolding strike
 done m said moved inked emptied = rw (said, moved, inked, emptied)
 
-module _ (m : Machine) (fit : Fits m) where
+module _ (m : Machine) where
   module _ {rows : ℕ} {next : Row}
       (advance : rows ≡ cond (m .printer .head .plotted) 7 (rows-per-line (m .printer .form .spacing)))
       (down : next ≡ lower rows (m .printer .head .row)) where
     pub line-down : {s : Step} → s ≡ quiet (strike lp2 next m) → fits (m .printer .form) next ≡ true → s ≡ newline lp2 m
     unfolding newline
-    line-down e h = obeyed m fit (simp (← advance, ← down, h) e)
+    line-down e h = simp (← advance, ← down, h) e
 
     pub form-over : {s : Step} → s ≡ finished (strike lp2 top m) → fits (m .printer .form) next ≡ false → s ≡ newline lp2 m
     unfolding newline
-    form-over e h = obeyed m fit (simp (← advance, ← down, h) e)
+    form-over e h = simp (← advance, ← down, h) e
 
   pub tabbed-to : {s : Step} {n : Line} {below lowest : NextTab} → s ≡ tab-to lp2 below lowest m → n ≡ current-line m →
       below ≡ first-tab (next-line n) (drop (lines-through n) (line-tabs (m .printer .tabs))) →
       lowest ≡ first-tab first-line (line-tabs (m .printer .tabs)) →
       s ≡ vertical-tab lp2 m
   unfolding vertical-tab
-  tabbed-to e current under first = obeyed m fit (simp (← current, ← under, ← first) e)
+  tabbed-to e current under first = simp (← current, ← under, ← first) e
 
 -- where a tab leads: to the line below, to the first one of the next form, or nowhere
 module _ (m : Machine) {below : NextTab} where
@@ -60,6 +59,6 @@ module _ (m : Machine) {below : NextTab} where
   unfolding tab-to
   to-lowest b l r = rw (b, l, r)
 
-  pub stays : {lowest : NextTab} → below ≡ Untabbed → lowest ≡ Untabbed → no-move lp2 m ≡ tab-to lp2 below lowest m
+  pub stays : {lowest : NextTab} → below ≡ Untabbed → lowest ≡ Untabbed → carriage-return lp2 m ≡ tab-to lp2 below lowest m
   unfolding tab-to
   stays b l = rw (b, l)

@@ -2,8 +2,8 @@
 ghost use mathlib.Core.Path.{_≡_};
 ghost use mathlib.Core.Bool.{cond};
 ghost use mathlib.Core.List.{List};
-ghost use Prim.Native.Nat.{ℕ, _+_, _*_, _≤_};
-ghost use lib.ListN.{drop, length};
+ghost use Prim.Native.Nat.{ℕ, _+_, _≤_};
+ghost use lib.ListN.{drop};
 ghost use Rattle.sheet.specs.Edition.{lp2};
 ghost use Rattle.sheet.specs.Form.{line, rows-per-line};
 ghost use Rattle.printer.specs.Given.{given, machine};
@@ -23,14 +23,13 @@ use sheet::sizes::lower;
 use sheet::sizes::rows_per_line;
 use state::parts::finished;
 use state::parts::fresh;
-use state::parts::guard;
 use state::parts::quiet;
 use state::tabs::tabbed;
 use striking::strike;
 
 // Strikes the line in progress at the current row; the head goes to a fresh line at row `next`.
 fn line_done(p: Printer, next: Row, page: &mut [u8], line: &mut [u16]) -> Stepped
-    requires { ⌜ ((p .head .row .0 + 9) * 825 ≤ length (now page)) × (length (now line) ≡ 2200) ⌝ }
+    requires { ⌜ Strikable p (now page) (now line) ⌝ }
     ensures { λ r. ⌜ ((staging store : List ℕ)
         → given r (now (page .exit)) (now (line .exit)) staging store
         ≡ quiet (strike lp2 next (machine p (now (page .entry)) (now (line .entry)) staging store))) ⌝ }
@@ -44,7 +43,7 @@ fn line_done(p: Printer, next: Row, page: &mut [u8], line: &mut [u16]) -> Steppe
 
 // The same, and with it the form is finished: row `next` is on the form that follows.
 fn form_done(p: Printer, next: Row, page: &mut [u8], line: &mut [u16]) -> Stepped
-    requires { ⌜ ((p .head .row .0 + 9) * 825 ≤ length (now page)) × (length (now line) ≡ 2200) ⌝ }
+    requires { ⌜ Strikable p (now page) (now line) ⌝ }
     ensures { λ r. ⌜ ((staging store : List ℕ)
         → given r (now (page .exit)) (now (line .exit)) staging store
         ≡ finished (strike lp2 next (machine p (now (page .entry)) (now (line .entry)) staging store))) ⌝ }
@@ -76,9 +75,6 @@ pub fn newline(p: Printer, page: &mut [u8], line: &mut [u16]) -> Stepped
 {
     let form = p.form;
     let row = p.head.row;
-    if !fits(form, row) {
-        return guard(p);
-    }
     let next = lower(row, advance(p));
     if fits(form, next) {
         line_done(p, next, page, line)
@@ -94,13 +90,7 @@ pub fn form_feed(p: Printer, page: &mut [u8], line: &mut [u16]) -> Stepped
         → given r (now (page .exit)) (now (line .exit)) staging store
         ≡ form-feed lp2 (machine p (now (page .entry)) (now (line .entry)) staging store)) ⌝ }
 {
-    let form = p.form;
-    let row = p.head.row;
-    if fits(form, row) {
-        form_done(p, Row(0), page, line)
-    } else {
-        guard(p)
-    }
+    form_done(p, Row(0), page, line)
 }
 
 // 0D.
@@ -110,13 +100,8 @@ pub fn carriage_return(p: Printer, page: &mut [u8], line: &mut [u16]) -> Stepped
         → given r (now (page .exit)) (now (line .exit)) staging store
         ≡ carriage-return lp2 (machine p (now (page .entry)) (now (line .entry)) staging store)) ⌝ }
 {
-    let form = p.form;
     let row = p.head.row;
-    if fits(form, row) {
-        line_done(p, row, page, line)
-    } else {
-        guard(p)
-    }
+    line_done(p, row, page, line)
 }
 
 // The first tabbed line of those below the first `above`.
@@ -137,7 +122,7 @@ fn first_tab(p: Printer, above: usize) -> NextTab
 
 // To the tabbed line below, to the lowest-numbered on the next form, or nowhere.
 fn tab_to(p: Printer, below: NextTab, lowest: NextTab, page: &mut [u8], line: &mut [u16]) -> Stepped
-    requires { ⌜ ((p .head .row .0 + 9) * 825 ≤ length (now page)) × (length (now line) ≡ 2200) × Kept below × Kept lowest ⌝ }
+    requires { ⌜ Strikable p (now page) (now line) × Kept below × Kept lowest ⌝ }
     ensures { λ r. ⌜ ((staging store : List ℕ)
         → given r (now (page .exit)) (now (line .exit)) staging store
         ≡ tab-to lp2 below lowest (machine p (now (page .entry)) (now (line .entry)) staging store)) ⌝ }
@@ -147,10 +132,7 @@ fn tab_to(p: Printer, below: NextTab, lowest: NextTab, page: &mut [u8], line: &m
         NextTab::Tabbed(n) => line_done(p, first_row(form, n), page, line),
         NextTab::Untabbed => match lowest {
             NextTab::Tabbed(n) => form_done(p, first_row(form, n), page, line),
-            NextTab::Untabbed => {
-                let row = p.head.row;
-                line_done(p, row, page, line)
-            }
+            NextTab::Untabbed => carriage_return(p, page, line),
         },
     }
 }
@@ -164,9 +146,6 @@ pub fn vertical_tab(p: Printer, page: &mut [u8], line: &mut [u16]) -> Stepped
 {
     let form = p.form;
     let row = p.head.row;
-    if !fits(form, row) {
-        return guard(p);
-    }
     let current = line_of(form, row);
     let below = first_tab(p, current.0);
     let lowest = first_tab(p, 0);

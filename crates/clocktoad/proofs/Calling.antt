@@ -13,7 +13,7 @@ use Rattle.printer.specs.Closing.{closing}
 use Rattle.printer.specs.Given.{machine}
 use Rattle.printer.specs.Machine.{shut}
 use Rattle.protocol.specs.declared.Answer.{Answer}
-use Rattle.protocol.specs.declared.Answer.the-variants.{Done, Finished, Noted, JobFull, Unsound, Misfit, Guarded, WrongLines, WrongSpacing}
+use Rattle.protocol.specs.declared.Answer.the-variants.{Done, Finished, Noted, JobFull, Unsound, Misfit, WrongLines, WrongSpacing}
 use Rattle.protocol.specs.declared.Lent.the-variants.{Page, LineStore, Staging, DownloadStore, Font}
 use Rattle.protocol.specs.Answers.{close-place, close-report, lent-number, noted-number, noted-place, refusal, report}
 use Rattle.protocol.specs.Calls.{Feeding, Opening, feeding, opening}
@@ -65,7 +65,6 @@ refusal-numbers (Misfit LineStore) q = omega arith
 refusal-numbers (Misfit Staging) q = omega arith
 refusal-numbers (Misfit DownloadStore) q = omega arith
 refusal-numbers (Misfit Font) q = omega arith
-refusal-numbers Guarded q = absurd (true≢false (sym q))
 refusal-numbers WrongLines q = omega arith
 refusal-numbers WrongSpacing q = omega arith
 

@@ -13,8 +13,7 @@ use Rattle.printer.specs.Given.{machine}
 use Rattle.printer.specs.Machine.{Machine}
 use Rattle.printer.specs.Room.{Ready, Room, Writable}
 use Rattle.printer.specs.Steps.{Step}
-use Rattle.printer.proofs.Ready.{Allowed}
-use Rattle.printer.proofs.StaysSound.{step-fine}
+use Rattle.printer.proofs.StaysSound.{step-ready}
 use Rattle.protocol.specs.declared.Answer.the-variants.{Done, JobFull}
 use Rattle.protocol.specs.Calls.{Feeding, limit, take-bytes}
 use Rattle.protocol.specs.Given.{answer-to, given-feeding, is-quiet, more}
@@ -68,14 +67,12 @@ module _ {font piece : List ℕ} {m₀ m : Machine} {i : ℕ} (h : Underway font
       pub after-step : is-quiet (s .event) ≡ true → Underway font piece m₀ (s .machine) (i + 1)
       after-step q =
           record {
-            ready = subst (λ (t : Step). Ready lp2 (t .machine)) (sym is) (step-fine (h .ready) font (getD piece i 0) .ready);
+            ready = subst (λ (t : Step). Ready lp2 (t .machine)) (sym is) (step-ready (h .ready) font (getD piece i 0));
             within = omega (arith, l);
             same = h .same ∙ taken-on font piece i m s is l room q;
           }
 
-      pub told : is-quiet (s .event) ≡ false → (p : Printer)
+      pub told : is-quiet (s .event) ≡ false
           → take-bytes lp2 font piece m₀
-          ≡ given-feeding (answer-to (s .event) p (s .machine .printer) i) (s .machine .page) (s .machine .line) (s .machine .staging) (s .machine .store)
-      told n p =
-          let v : Allowed (s .event) = subst (λ (t : Step). Allowed (t .event)) (sym is) (step-fine (h .ready) font (getD piece i 0) .allowed) in
-          h .same ∙ taken-out font piece i m s is l room n v p
+          ≡ given-feeding (answer-to (s .event) (s .machine .printer) i) (s .machine .page) (s .machine .line) (s .machine .staging) (s .machine .store)
+      told n = h .same ∙ taken-out font piece i m s is l room n

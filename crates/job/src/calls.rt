@@ -114,7 +114,7 @@ fn take_bytes(
         let s = step(after, piece[at], page, line, staging, store, font);
         let event = s.event;
         if !is_quiet(event) {
-            return answer_to(after, s, at);
+            return answer_to(s, at);
         }
         q = s.printer;
         i = at + 1;

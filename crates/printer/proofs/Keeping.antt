@@ -8,7 +8,7 @@ use lib.ListN.{length}
 use Rattle.sheet.specs.declared.Form.{Form}
 use Rattle.sheet.specs.Edition.{Edition}
 use Rattle.printer.specs.declared.Event.{Event}
-use Rattle.printer.specs.declared.Event.the-variants.{Quiet, Finished, Noted, Guard}
+use Rattle.printer.specs.declared.Event.the-variants.{Quiet, Finished, Noted}
 use Rattle.printer.specs.declared.Pending.{Pending}
 use Rattle.printer.specs.declared.Pending.the-variants.{Nothing, Escape, Tabs, Reset, Select, SelectLow, CountHigh, CountLow, AddressHigh}
 use Rattle.printer.specs.declared.Pending.the-variants.{AddressLow, Payload}
@@ -24,7 +24,7 @@ use Rattle.printer.specs.Machine.{Machine, with-job}
 use Rattle.printer.specs.Plotting.{plot, plot-byte, plot-escape}
 use Rattle.printer.specs.Printing.{print}
 use Rattle.printer.specs.Steps.{Step, tell, tell-step}
-use Rattle.printer.specs.Terminators.{carriage-return, form-feed, guarded, newline, strike, tab-to, vertical-tab}
+use Rattle.printer.specs.Terminators.{carriage-return, form-feed, newline, strike, tab-to, vertical-tab}
 
 -- what no command touches
 pub record Kept : Type 0 where
@@ -44,7 +44,7 @@ keeps-cond false s u h h′ = h′
 
 module _ (e : Edition) {k : Kept} where
   tab-to-keeps : (below lowest : NextTab) (m : Machine) → kept m ≡ k → Keeps k (tab-to e below lowest m)
-  unfolding tab-to strike
+  unfolding tab-to carriage-return strike
   tab-to-keeps (Tabbed n) lowest m h = h
   tab-to-keeps Untabbed (Tabbed n) m h = h
   tab-to-keeps Untabbed Untabbed m h = h
@@ -54,7 +54,6 @@ module _ (e : Edition) {k : Kept} where
   tell-keeps Quiet m h = h
   tell-keeps Finished m h = h
   tell-keeps (Noted f place) m h = h
-  tell-keeps Guard m h = h
 
   tell-step-keeps : (s : Step) → Keeps k s → kept (tell-step e s .machine) ≡ k
   unfolding tell-step
@@ -71,7 +70,7 @@ module _ (e : Edition) {k : Kept} where
 
   -- a whole command
   pub obey-keeps : (font : List ℕ) (c : Command) (place : ℕ) (m : Machine) → kept m ≡ k → kept (obey e font c place m .machine) ≡ k
-  unfolding obey alone text-byte print guarded newline vertical-tab form-feed carriage-return strike plot-byte plot escape in-turn tab-here tab
+  unfolding obey alone text-byte print newline vertical-tab form-feed carriage-return strike plot-byte plot escape in-turn tab-here tab
       plot-escape clear-tabs after-reset reset select download
   obey-keeps font (byte b) place m h = search (tell-step-keeps, keeps-cond, tab-to-keeps) depth 20
   obey-keeps font (escaped b) place m h = search (tell-step-keeps, keeps-cond) depth 20
@@ -94,7 +93,7 @@ tab-to-counts e below lowest m =
     (ap (λ (k : Kept). k .form) h, ap (λ (k : Kept). k .job) h)
 
 act-counts : (e : Edition) (font : List ℕ) (q : Pending) (b here : ℕ) (m : Machine) → Counts (m .printer .form) (m .printer .job) (act e font q b here m)
-unfolding act first-byte second-byte text-escape tab-byte payload-byte alone text-byte print guarded newline vertical-tab form-feed carriage-return
+unfolding act first-byte second-byte text-escape tab-byte payload-byte alone text-byte print newline vertical-tab form-feed carriage-return
     strike plot-byte plot escape in-turn tab-here tab plot-escape clear-tabs after-reset reset select download tab-item
 act-counts e font Nothing b here m = search (counts-cond, tab-to-counts) depth 20
 act-counts e font (Escape place) b here m = search counts-cond depth 20
@@ -118,7 +117,6 @@ unfolding tell
 tell-printer e Quiet m = refl
 tell-printer e Finished m = refl
 tell-printer e (Noted f place) m = refl
-tell-printer e Guard m = refl
 
 -- a run keeps the form and counts its bytes
 pub run-counts : (e : Edition) (font bs : List ℕ) (m : Machine)

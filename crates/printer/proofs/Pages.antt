@@ -23,7 +23,7 @@ use Rattle.printer.specs.Plotting.{plot, plot-byte, plot-escape}
 use Rattle.printer.specs.Printing.{print}
 use Rattle.printer.specs.Steps.{Step}
 use Rattle.printer.specs.Strikes.{Strike, idle, in-progress, strike-all, strikes, strikes-of, terminator}
-use Rattle.printer.specs.Terminators.{carriage-return, form-feed, guarded, newline, strike, tab-to, vertical-tab}
+use Rattle.printer.specs.Terminators.{carriage-return, form-feed, newline, strike, tab-to, vertical-tab}
 
 -- a step that leaves a page
 abbrev Leaves : List ℕ → Step → Type 0
@@ -43,24 +43,17 @@ module _ (e : Edition) (m : Machine) where
   inked = struck e (m .page) (m .line) (m .printer .head .row) (m .printer .style .pitch)
 
   tab-to-page : (below lowest : NextTab) → Leaves inked (tab-to e below lowest m)
-  unfolding tab-to strike
+  unfolding tab-to carriage-return strike
   tab-to-page (Tabbed n) lowest = refl
   tab-to-page Untabbed (Tabbed n) = refl
   tab-to-page Untabbed Untabbed = refl
 
-  -- a terminator strikes the line, where the guard lets it
-  guarded-page : (s : Step) → Leaves inked s → (t : Bool) → fits (m .printer .form) (m .printer .head .row) ≡ t
-      → Leaves (cond t inked (m .page)) (guarded m s)
-  unfolding guarded
-  guarded-page s h true q = rw q h
-  guarded-page s h false q = rw q refl
-
-  -- the page after a byte, by whether it is a terminator that the guard lets
+  -- the page after a byte, by whether it is a terminator
   abbrev left-by : Bool → List ℕ
-  left-by t = cond (t && fits (m .printer .form) (m .printer .head .row)) inked (m .page)
+  left-by t = cond t inked (m .page)
 
-  ends-line : (s : Step) (b : ℕ) → terminator b ≡ true → Leaves inked s → Leaves (left-by (terminator b)) (guarded m s)
-  ends-line s b q h = rw q (guarded-page s h (fits (m .printer .form) (m .printer .head .row)) refl)
+  ends-line : (page : List ℕ) (b : ℕ) → terminator b ≡ true → page ≡ inked → page ≡ left-by (terminator b)
+  ends-line page b q h = rw q h
 
   stays : (page : List ℕ) (b : ℕ) → terminator b ≡ false → page ≡ m .page → page ≡ left-by (terminator b)
   stays page b q h = rw q h

@@ -1,4 +1,4 @@
--- Every byte keeps a machine ready, its state sound and its memory of its lengths, and none comes to the guard.
+-- Every byte keeps a machine ready, its state sound and its memory of its lengths.
 use Prim.Native.Nat.{ℕ, zero-le, _+_, _-_, _*_, _%_, _≤_, _<_}
 use mathlib.Core.Bool.{Bool, true, false, not, _||_, and-eq-true-iff, true≢false}
 use mathlib.Core.List.{List, [], _∷_}
@@ -24,7 +24,7 @@ use Rattle.glyph.proofs.WellFormed.{or-parts}
 use Rattle.printer.specs.declared.Begun.{Begun}
 use Rattle.printer.specs.declared.Begun.the-variants.{Nowhere, At}
 use Rattle.printer.specs.declared.Event.{Event}
-use Rattle.printer.specs.declared.Event.the-variants.{Quiet, Finished, Noted, Guard}
+use Rattle.printer.specs.declared.Event.the-variants.{Quiet, Finished, Noted}
 use Rattle.printer.specs.declared.Load.{Load}
 use Rattle.printer.specs.declared.Pending.{Pending}
 use Rattle.printer.specs.declared.Pending.the-variants.{Nothing, Escape, Tabs, Reset, Select, SelectLow, CountHigh, CountLow, AddressHigh}
@@ -43,9 +43,9 @@ use Rattle.printer.specs.Printing.{entered, moved-to, print}
 use Rattle.printer.specs.Sound.{begun, at-most-escape}
 use Rattle.printer.specs.Steps.{Step, tell, tell-step}
 use Rattle.printer.specs.Tabs.{line-tabs}
-use Rattle.printer.specs.Terminators.{carriage-return, current-line, form-feed, guarded, newline, strike, tab-to, vertical-tab}
+use Rattle.printer.specs.Terminators.{carriage-return, current-line, form-feed, newline, strike, tab-to, vertical-tab}
 use Rattle.printer.specs.Room.{Ready}
-use Rattle.printer.proofs.Ready.{Fine, fine, fine-cond, fine-finished, fine-noted, fine-quiet, fine-test, length-empty-store}
+use Rattle.printer.proofs.Ready.{length-empty-store, ready-cond, ready-test}
 use Rattle.printer.proofs.SoundTabs.{Inside, first-tab-inside, tab-put, tabs-cleared}
 use Rattle.printer.specs.Facts.{Sound, SoundHead, SoundLoad, SoundPlace, SoundPlot}
 
@@ -88,56 +88,51 @@ module _ {e : Edition} {m : Machine} (h : Ready e m) where
       let p : length (struck e (m .page) (m .line) here (m .printer .style .pitch)) ≡ page-bytes e form = length-struck e _ _ _ _ ∙ h .memory .page in
       search (fresh-head-sound, length-empty-line, absurd)
 
-  guarded-fine : (s : Step) → Fine e s → Fine e (guarded m s)
-  unfolding guarded
-  guarded-fine s k = rw here-fits k
-
-  newline-fine : Fine e (newline e m)
+  newline-ready : Ready e (newline e m .machine)
   unfolding newline
-  newline-fine = search (guarded-fine, fine-test, fine-quiet, fine-finished, strike-ready, form-top) depth 10
+  newline-ready = ready-test (fits form _) _ _ (strike-ready _) (λ _. strike-ready top form-top)
 
-  form-feed-fine : Fine e (form-feed e m)
+  form-feed-ready : Ready e (form-feed e m .machine)
   unfolding form-feed
-  form-feed-fine = search (guarded-fine, fine, strike-ready, form-top)
+  form-feed-ready = strike-ready top form-top
 
-  carriage-return-fine : Fine e (carriage-return e m)
+  carriage-return-ready : Ready e (carriage-return e m .machine)
   unfolding carriage-return
-  carriage-return-fine = search (guarded-fine, fine, strike-ready, here-fits)
+  carriage-return-ready = strike-ready here here-fits
 
-  tab-to-fine : (below lowest : NextTab) → Inside (form .lines) below → Inside (form .lines) lowest → Fine e (tab-to e below lowest m)
+  tab-to-ready : (below lowest : NextTab) → Inside (form .lines) below → Inside (form .lines) lowest → Ready e (tab-to e below lowest m .machine)
   unfolding tab-to
-  tab-to-fine (Tabbed n) lowest b l = fine-quiet (strike-ready _ (line-fits form n (b .0) (b .1)))
-  tab-to-fine Untabbed (Tabbed n) b l = fine-finished (strike-ready _ (line-fits form n (l .0) (l .1)))
-  tab-to-fine Untabbed Untabbed b l = fine-quiet (strike-ready here here-fits)
+  tab-to-ready (Tabbed n) lowest b l = strike-ready _ (line-fits form n (b .0) (b .1))
+  tab-to-ready Untabbed (Tabbed n) b l = strike-ready _ (line-fits form n (l .0) (l .1))
+  tab-to-ready Untabbed Untabbed b l = carriage-return-ready
 
-  vertical-tab-fine : Fine e (vertical-tab e m)
+  vertical-tab-ready : Ready e (vertical-tab e m .machine)
   unfolding vertical-tab
-  vertical-tab-fine =
+  vertical-tab-ready =
       let n : Line = current-line m in
-      guarded-fine _
-      (tab-to-fine _ _
+      tab-to-ready _ _
       (first-tab-inside (form .lines) (next-line n) (drop (lines-through n) (line-tabs (m .printer .tabs))) (omega arith)
       (λ i t. omega (arith, h .printer .tabs .inside (lines-through n + i) (rw getD-drop at t))))
-      (first-tab-inside (form .lines) first-line (line-tabs (m .printer .tabs)) (omega arith) (λ i t. omega (arith, h .printer .tabs .inside i t))))
+      (first-tab-inside (form .lines) first-line (line-tabs (m .printer .tabs)) (omega arith) (λ i t. omega (arith, h .printer .tabs .inside i t)))
 
   moved-sound : (c : ℕ) → c ≤ width → SoundHead form width (moved-to c (m .printer .head))
   moved-sound c l = record { row = h .printer .head .row; column = l; fresh = λ t. absurd t }
 
-  print-fine : (font : List ℕ) (b place : ℕ) → Fine e (print e font b place m)
+  print-ready : (font : List ℕ) (b place : ℕ) → Ready e (print e font b place m .machine)
   unfolding print entered
-  print-fine font b place =
+  print-ready font b place =
       let l : length (entered font b m) ≡ e .columns = length-enter _ _ _ _ _ _ ∙ h .memory .line in
-      search (fine-test, fine-quiet, fine-noted, moved-sound, leb-true) depth 10
+      search (ready-test, moved-sound, leb-true) depth 10
 
-  plot-fine : (v place : ℕ) → Fine e (plot e v place m)
+  plot-ready : (v place : ℕ) → Ready e (plot e v place m .machine)
   unfolding plot
-  plot-fine v place =
+  plot-ready v place =
       let l : length (or-in (m .printer .head .column) v (m .line)) ≡ e .columns = length-or-in _ _ _ ∙ h .memory .line in
-      search (fine-test, fine-quiet, fine-noted, moved-sound, lt-add-one, ltb-true) depth 10
+      search (ready-test, moved-sound, lt-add-one, ltb-true) depth 10
 
-  in-turn-fine : (place : ℕ) (after : Machine) → (T (m .printer .head .fresh) → Ready e after) → Fine e (in-turn place m after)
+  in-turn-ready : (place : ℕ) (after : Machine) → (T (m .printer .head .fresh) → Ready e after) → Ready e (in-turn place m after .machine)
   unfolding in-turn
-  in-turn-fine place after k = fine-test (m .printer .head .fresh) _ _ (λ q. fine-quiet (k (subst T (sym q) tt))) (λ _. fine-noted h)
+  in-turn-ready place after k = ready-test (m .printer .head .fresh) _ _ (λ q. k (subst T (sym q) tt)) (λ _. h)
 
   set-elongated-ready : (on : Bool) → Ready e (set-elongated on m)
   set-elongated-ready on = search
@@ -167,12 +162,12 @@ module _ {e : Edition} {m : Machine} (h : Ready e m) where
   unfolding tab-here line-of
   tab-here-ready on = tab-ready on (current-line m) (omega arith) (line-inside form here here-fits)
 
-  tab-item-fine : (n place : ℕ) → Fine e (tab-item n place m)
+  tab-item-ready : (n place : ℕ) → Ready e (tab-item n place m .machine)
   unfolding tab-item has-line
-  tab-item-fine n place =
-      fine-test (has-line form n) _ _
-      (λ q. let p = and-eq-true-iff _ _ .0 q in fine-quiet (tab-ready true (line n) (leb-true _ _ (p .0)) (leb-true _ _ (p .1))))
-      (λ _. fine-noted h)
+  tab-item-ready n place =
+      ready-test (has-line form n) _ _
+      (λ q. let p = and-eq-true-iff _ _ .0 q in tab-ready true (line n) (leb-true _ _ (p .0)) (leb-true _ _ (p .1)))
+      (λ _. h)
 
   clear-tabs-ready : Ready e (clear-tabs m)
   unfolding clear-tabs
@@ -182,47 +177,47 @@ module _ {e : Edition} {m : Machine} (h : Ready e m) where
   unfolding after-reset clear-tabs
   after-reset-ready = search (tabs-cleared, fresh-head-sound, here-fits, length-empty-line, length-empty-store, absurd)
 
-  reset-fine : (b place : ℕ) → Fine e (reset e b place m)
+  reset-ready : (b place : ℕ) → Ready e (reset e b place m .machine)
   unfolding reset
-  reset-fine b place = search (fine, after-reset-ready)
+  reset-ready b place = search (ready-cond, after-reset-ready)
 
-  select-fine : (high low place : ℕ) → Fine e (select high low place m)
+  select-ready : (high low place : ℕ) → Ready e (select high low place m .machine)
   unfolding select
-  select-fine high low place = search (fine, set-downloaded-ready)
+  select-ready high low place = search (ready-cond, set-downloaded-ready)
 
-  escape-fine : (b place : ℕ) → at-most-escape (m .printer .pending) ≡ true → Fine e (escape b place m)
+  escape-ready : (b place : ℕ) → at-most-escape (m .printer .pending) ≡ true → Ready e (escape b place m .machine)
   unfolding escape
-  escape-fine b place q =
+  escape-ready b place q =
       search (
-        fine,
+        ready-cond,
         tab-here-ready,
         set-elongated-ready,
         set-underscore-ready,
         set-downloaded-ready,
-        in-turn-fine,
+        in-turn-ready,
         set-pitch-ready,
         begin-plot-ready,
       )
       depth 20
 
-  plot-escape-fine : (b place : ℕ) → Fine e (plot-escape e b place m)
+  plot-escape-ready : (b place : ℕ) → Ready e (plot-escape e b place m .machine)
   unfolding plot-escape
-  plot-escape-fine b place = search (fine, plot-fine, leave-plot-ready)
+  plot-escape-ready b place = search (ready-cond, plot-ready, leave-plot-ready)
 
-  alone-fine : (font : List ℕ) (b place : ℕ) → Fine e (alone e font b place m)
+  alone-ready : (font : List ℕ) (b place : ℕ) → Ready e (alone e font b place m .machine)
   unfolding alone text-byte plot-byte
-  alone-fine font b place = search (fine, plot-fine, print-fine, newline-fine, vertical-tab-fine, form-feed-fine, carriage-return-fine) depth 20
+  alone-ready font b place = search (ready-cond, plot-ready, print-ready, newline-ready, vertical-tab-ready, form-feed-ready, carriage-return-ready) depth 20
 
-  download-fine : (count address sum checksum place : ℕ) → Fine e (download count address sum checksum place m)
+  download-ready : (count address sum checksum place : ℕ) → Ready e (download count address sum checksum place m .machine)
   unfolding download replaced
-  download-fine count address sum checksum place =
-      fine-cond (not (eqb ((sum + checksum) % 256) 0)) _ _ (fine-noted h)
-      (fine-test (out-of-range count address) _ _ (λ _. fine-noted h)
+  download-ready count address sum checksum place =
+      ready-cond (not (eqb ((sum + checksum) % 256) 0)) _ _ h
+      (ready-test (out-of-range count address) _ _ (λ _. h)
       (λ q.
       let inside = in-range count address q in
       let k : length (replaced (address - 2048) count (m .staging) (m .store)) ≡ 2048 =
       simp (length-append, length-take, length-drop) (omega (arith, h .memory .staging, h .memory .store)) in
-      search fine))
+      search ready-cond))
 
   -- What is pending may change: a command ends, or a longer one goes on outside plot mode.
   ended-ready : Ready e (ended m)
@@ -245,50 +240,50 @@ module _ {e : Edition} {m : Machine} (h : Ready e m) where
 
 -- One byte, by what is pending, with the byte counted.
 module _ {e : Edition} {m : Machine} (h : Ready e m) where
-  text-escape-fine : (b place : ℕ) → place < m .printer .job → m .printer .head .plotting ≡ false → Fine e (text-escape b place m)
+  text-escape-ready : (b place : ℕ) → place < m .printer .job → m .printer .head .plotting ≡ false → Ready e (text-escape b place m .machine)
   unfolding text-escape clear-tabs
-  text-escape-fine b place l q =
+  text-escape-ready b place l q =
       let off : T (m .printer .head .plotting) → ⊥ = λ t. subst T q t in
-      fine-cond (eqb b 0x46) _ _ (fine-quiet (waiting-ready (clear-tabs-ready h) (Tabs place) tt l off))
-      (fine-cond (eqb b 0x63) _ _ (fine-quiet (waiting-ready h (Reset place) tt l off))
-      (fine-cond (eqb b 0x59) _ _ (fine-quiet (waiting-ready h (CountHigh place) tt l off))
-      (fine-cond (eqb b 0x4e) _ _ (fine-quiet (waiting-ready h (Select place) tt l off))
-      (escape-fine (ended-ready h) b place refl))))
+      ready-cond (eqb b 0x46) _ _ (waiting-ready (clear-tabs-ready h) (Tabs place) tt l off)
+      (ready-cond (eqb b 0x63) _ _ (waiting-ready h (Reset place) tt l off)
+      (ready-cond (eqb b 0x59) _ _ (waiting-ready h (CountHigh place) tt l off)
+      (ready-cond (eqb b 0x4e) _ _ (waiting-ready h (Select place) tt l off)
+      (escape-ready (ended-ready h) b place refl))))
 
-  second-byte-fine : (b place : ℕ) → place < m .printer .job → Fine e (second-byte e b place m)
+  second-byte-ready : (b place : ℕ) → place < m .printer .job → Ready e (second-byte e b place m .machine)
   unfolding second-byte
-  second-byte-fine b place l =
-      fine-test (m .printer .head .plotting) _ _ (λ _. plot-escape-fine (ended-ready h) b place) (λ q. text-escape-fine b place l q)
+  second-byte-ready b place l =
+      ready-test (m .printer .head .plotting) _ _ (λ _. plot-escape-ready (ended-ready h) b place) (λ q. text-escape-ready b place l q)
 
-  tab-byte-fine : (b here : ℕ) → Fine e (tab-byte b here m)
+  tab-byte-ready : (b here : ℕ) → Ready e (tab-byte b here m .machine)
   unfolding tab-byte
-  tab-byte-fine b here = fine-cond (eqb b 0) _ _ (fine-quiet (ended-ready h)) (tab-item-fine h b here)
+  tab-byte-ready b here = ready-cond (eqb b 0) _ _ (ended-ready h) (tab-item-ready h b here)
 
-  payload-byte-fine : (l : Load) (b place : ℕ) → place < m .printer .job → (T (m .printer .head .plotting) → ⊥) → Fine e (payload-byte l b place m)
+  payload-byte-ready : (l : Load) (b place : ℕ) → place < m .printer .job → (T (m .printer .head .plotting) → ⊥) → Ready e (payload-byte l b place m .machine)
   unfolding payload-byte
-  payload-byte-fine l b place below off =
-      fine-test (ltb (l .taken) (l .count)) _ _
-      (λ q. fine-quiet (waiting-ready (staged-ready h (l .taken) b) (Payload place (loaded l b)) (lt-add-one _ _ (ltb-true _ _ q)) below off))
-      (λ _. download-fine (ended-ready h) _ _ _ _ _)
+  payload-byte-ready l b place below off =
+      ready-test (ltb (l .taken) (l .count)) _ _
+      (λ q. waiting-ready (staged-ready h (l .taken) b) (Payload place (loaded l b)) (lt-add-one _ _ (ltb-true _ _ q)) below off)
+      (λ _. download-ready (ended-ready h) _ _ _ _ _)
 
 -- no byte of a longer command comes in plot mode
 text-mode : {e : Edition} {p : Printer} → Sound e p → at-most-escape (p .pending) ≡ false → T (p .head .plotting) → ⊥
 text-mode h q t = true≢false (sym (h .plot t .1) ∙ q)
 
 module _ {e : Edition} (font : List ℕ) (b here : ℕ) (m : Machine) where
-  act-fine : (q : Pending) → here < m .printer .job → Ready e (with-pending q m) → Fine e (act e font q b here (with-pending q m))
+  act-ready : (q : Pending) → here < m .printer .job → Ready e (with-pending q m) → Ready e (act e font q b here (with-pending q m) .machine)
   unfolding act first-byte
-  act-fine Nothing l h = fine-cond (eqb b 0x1b) _ _ (fine-quiet (escape-begun h here l)) (alone-fine h font b here)
-  act-fine (Escape place) l h = second-byte-fine h b place (h .printer .place)
-  act-fine (Tabs place) l h = tab-byte-fine h b here
-  act-fine (Reset place) l h = reset-fine (ended-ready h) b place
-  act-fine (Select place) l h = fine-quiet (waiting-ready h (SelectLow place b) tt (h .printer .place) (text-mode (h .printer) refl))
-  act-fine (SelectLow place high) l h = select-fine (ended-ready h) high b place
-  act-fine (CountHigh place) l h = fine-quiet (waiting-ready h (CountLow place b) tt (h .printer .place) (text-mode (h .printer) refl))
-  act-fine (CountLow place high) l h = fine-quiet (waiting-ready h (AddressHigh place (high * 256 + b)) tt (h .printer .place) (text-mode (h .printer) refl))
-  act-fine (AddressHigh place count) l h = fine-quiet (waiting-ready h (AddressLow place count b) tt (h .printer .place) (text-mode (h .printer) refl))
-  act-fine (AddressLow place count high) l h = fine-quiet (waiting-ready h (Payload place _) zero-le (h .printer .place) (text-mode (h .printer) refl))
-  act-fine (Payload place load) l h = payload-byte-fine h load b place (h .printer .place) (text-mode (h .printer) refl)
+  act-ready Nothing l h = ready-cond (eqb b 0x1b) _ _ (escape-begun h here l) (alone-ready h font b here)
+  act-ready (Escape place) l h = second-byte-ready h b place (h .printer .place)
+  act-ready (Tabs place) l h = tab-byte-ready h b here
+  act-ready (Reset place) l h = reset-ready (ended-ready h) b place
+  act-ready (Select place) l h = waiting-ready h (SelectLow place b) tt (h .printer .place) (text-mode (h .printer) refl)
+  act-ready (SelectLow place high) l h = select-ready (ended-ready h) high b place
+  act-ready (CountHigh place) l h = waiting-ready h (CountLow place b) tt (h .printer .place) (text-mode (h .printer) refl)
+  act-ready (CountLow place high) l h = waiting-ready h (AddressHigh place (high * 256 + b)) tt (h .printer .place) (text-mode (h .printer) refl)
+  act-ready (AddressHigh place count) l h = waiting-ready h (AddressLow place count b) tt (h .printer .place) (text-mode (h .printer) refl)
+  act-ready (AddressLow place count high) l h = waiting-ready h (Payload place _) zero-le (h .printer .place) (text-mode (h .printer) refl)
+  act-ready (Payload place load) l h = payload-byte-ready h load b place (h .printer .place) (text-mode (h .printer) refl)
 
 -- a command that began below the count of the job is below it still with one byte more
 counted-place : (job : ℕ) (b : Begun) → SoundPlace job b → SoundPlace (job + 1) b
@@ -302,9 +297,9 @@ module _ {e : Edition} {m : Machine} where
       search
 
   -- THE LAW: a step of a machine that is ready
-  pub step-fine : Ready e m → (font : List ℕ) (b : ℕ) → Fine e (step e font b m)
+  pub step-ready : Ready e m → (font : List ℕ) (b : ℕ) → Ready e (step e font b m .machine)
   unfolding step
-  step-fine h font b = act-fine font b (m .printer .job) (with-job (m .printer .job + 1) m) (m .printer .pending) (omega arith) (counted h)
+  step-ready h font b = act-ready font b (m .printer .job) (with-job (m .printer .job + 1) m) (m .printer .pending) (omega arith) (counted h)
 
 -- so is the machine that a caller goes on with, with a blank page after a finished one
 pub tell-ready : {e : Edition} (v : Event) {m : Machine} → Ready e m → Ready e (tell e v m .machine)
@@ -312,7 +307,6 @@ unfolding tell
 tell-ready Quiet h = h
 tell-ready Finished h = search length-blank-page
 tell-ready (Noted f place) h = h
-tell-ready Guard h = h
 
 -- a machine just opened
 pub opened-ready : (e : Edition) (f : Form) → lines-allowed e (f .lines) ≡ true → spacing-allowed (f .spacing) ≡ true → Ready e (opened e f)
@@ -338,4 +332,4 @@ opened-ready e f l s =
 pub run-ready : {e : Edition} (font bs : List ℕ) {m : Machine} → Ready e m → Ready e (run e font bs m .machine)
 unfolding run tell-step
 run-ready font [] h = h
-run-ready font (b ∷ bs) h = run-ready font bs (tell-ready _ (step-fine h font b .ready))
+run-ready font (b ∷ bs) h = run-ready font bs (tell-ready _ (step-ready h font b))

@@ -12,7 +12,7 @@ use Rattle.printer.specs.Closing.{close-line, close-command, closing}
 use Rattle.printer.specs.Steps.{tell, tell-step}
 use Rattle.printer.specs.Numbers.{note-number, told-report}
 use Rattle.printer.specs.Printing.{entered, print}
-use Rattle.printer.specs.Terminators.{guarded, first-tab, strike, newline, form-feed, carriage-return, tab-to, vertical-tab}
+use Rattle.printer.specs.Terminators.{first-tab, strike, newline, form-feed, carriage-return, tab-to, vertical-tab}
 use Rattle.printer.specs.Escapes.{tab, tab-here, clear-tabs, tab-item, in-turn, after-reset, reset, select, escape}
 use Rattle.printer.specs.Plotting.{plot, plot-byte, plot-escape}
 use Rattle.printer.specs.Downloads.{stage, total, out-of-range, replaced, download}
@@ -26,7 +26,7 @@ pub cases : Holds
 unfolding lp2 lines-allowed spacing-allowed rows-per-line form-rows empty-line first-row line-of has-line fits word column small-words share apart
     well-formed all-well-formed cell or-in enter-narrow enter-wide underscore enter-glyph enter empty-store word-tabs line-tabs no-tabs put-bit
     with-tab form-sound untabbed tabs-sound fresh-sound plot-sound sound close-line close-command closing tell tell-step note-number told-report
-    entered print guarded first-tab strike newline form-feed carriage-return tab-to vertical-tab tab tab-here clear-tabs tab-item in-turn
+    entered print first-tab strike newline form-feed carriage-return tab-to vertical-tab tab tab-here clear-tabs tab-item in-turn
     after-reset reset select escape plot plot-byte plot-escape stage total out-of-range replaced download text-byte alone first-byte text-escape
     second-byte tab-byte payload-byte act step run item items cut-tabs cut-reset cut-select cut-checksum cut-download cut-escape cut set-tabs
     obey leave-download leave-select leave read-cut read reading look-at table stated found bit

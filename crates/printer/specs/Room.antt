@@ -1,11 +1,11 @@
 -- What the functions of src/ ask of the state and of what they are lent. A machine that is ready, with a font of its length, has it all.
-use Prim.Native.Nat.{ℕ, _≤_}
+use Prim.Native.Nat.{ℕ, _+_, _≤_}
 use mathlib.Core.List.{List}
 use mathlib.Core.Path.{_≡_}
 use lib.ListN.{length}
 use Rattle.sheet.specs.declared.Form.{Form}
 use Rattle.sheet.specs.Edition.{Edition, lp2}
-use Rattle.sheet.specs.Form.{page-bytes}
+use Rattle.sheet.specs.Form.{form-rows, page-bytes}
 use Rattle.printer.specs.declared.NextTab.{NextTab}
 use Rattle.printer.specs.declared.NextTab.the-variants.{Tabbed, Untabbed}
 use Rattle.printer.specs.declared.Printer.{Printer}
@@ -19,15 +19,17 @@ pub record Writable (p : Printer) (ln st font : List ℕ) : Type 0 where
   pub store : length st ≡ 2048
   pub resident : length font ≡ 2048
 
--- to strike a line
+-- to strike a line: its nine wires stay on the form
 pub record Strikable (p : Printer) (pg ln : List ℕ) : Type 0 where
   pub lines : p .form .lines ≤ 99
+  pub row : p .head .row .0 + 9 ≤ form-rows (p .form)
   pub page : length pg ≡ page-bytes lp2 (p .form)
   pub line : length ln ≡ 2200
 
 -- to obey any byte
 pub record Room (p : Printer) (pg ln sg st font : List ℕ) : Type 0 where
   pub lines : p .form .lines ≤ 99
+  pub row : p .head .row .0 + 9 ≤ form-rows (p .form)
   pub column : p .head .column ≤ 2200
   pub page : length pg ≡ page-bytes lp2 (p .form)
   pub line : length ln ≡ 2200

@@ -9,7 +9,6 @@ use Rattle.sheet.specs.declared.Pitch.{Pitch}
 use Rattle.sheet.specs.declared.Row.{Row}
 use Rattle.sheet.specs.Dots.{Strikes, marks, struck}
 use Rattle.sheet.specs.Edition.{Edition}
-use Rattle.sheet.specs.Form.{fits}
 use Rattle.printer.specs.declared.Pending.{Pending}
 use Rattle.printer.specs.declared.Pending.the-variants.{Nothing, Escape, Tabs, Reset, Select, SelectLow, CountHigh, CountLow, AddressHigh}
 use Rattle.printer.specs.declared.Pending.the-variants.{AddressLow, Payload}
@@ -39,9 +38,9 @@ idle (AddressHigh place count) = false
 idle (AddressLow place count high) = false
 idle (Payload place load) = false
 
--- a byte strikes the line in progress: it is a terminator, and no data, outside plot mode, where the guard lets it
+-- a byte strikes the line in progress: it is a terminator, and no data, outside plot mode
 unfoldable pub strikes : ℕ → Machine → Bool
-strikes b m = idle (m .printer .pending) && not (m .printer .head .plotting) && terminator b && fits (m .printer .form) (m .printer .head .row)
+strikes b m = idle (m .printer .pending) && not (m .printer .head .plotting) && terminator b
 
 -- the line in progress, as a strike
 abbrev pub in-progress : Machine → Strike

@@ -10,16 +10,12 @@ use Rattle.sheet.specs.Form.{empty-line, first-line, first-row, fits, line-of, 
 use Rattle.printer.specs.declared.NextTab.{NextTab}
 use Rattle.printer.specs.declared.NextTab.the-variants.{Tabbed, Untabbed}
 use Rattle.printer.specs.Machine.{Machine, fresh-head, with-head, with-line, with-page}
-use Rattle.printer.specs.Steps.{Step, finished, guard, quiet}
+use Rattle.printer.specs.Steps.{Step, finished, quiet}
 use Rattle.printer.specs.Tabs.{line-tabs}
 
 -- the line that the head stands in
 abbrev pub current-line : Machine → Line
 current-line m = line-of (m .printer .form) (m .printer .head .row)
-
--- the guard: a terminator that meets r + 9 > L × R is not obeyed
-unfoldable pub guarded : Machine → Step → Step
-guarded m s = cond (fits (m .printer .form) (m .printer .head .row)) s (guard m)
 
 -- the first tabbed line of those whose tabs are given, the first of them line n
 unfoldable pub first-tab : Line → List Bool → NextTab
@@ -37,29 +33,25 @@ module _ (e : Edition) where
   unfoldable pub newline : Machine → Step
   newline m =
       let r : Row = lower (cond (m .printer .head .plotted) 7 (rows-per-line (m .printer .form .spacing))) (m .printer .head .row) in
-      guarded m (cond (fits (m .printer .form) r) (quiet (strike r m)) (finished (strike top m)))
+      cond (fits (m .printer .form) r) (quiet (strike r m)) (finished (strike top m))
 
   -- 0C: form finished, row 0
   unfoldable pub form-feed : Machine → Step
-  form-feed m = guarded m (finished (strike top m))
+  form-feed m = finished (strike top m)
 
   -- 0D: no move
-  abbrev pub no-move : Machine → Step
-  no-move m = quiet (strike (m .printer .head .row) m)
-
   unfoldable pub carriage-return : Machine → Step
-  carriage-return m = guarded m (no-move m)
+  carriage-return m = quiet (strike (m .printer .head .row) m)
 
   -- To the next tabbed line below. If tabs stand but none below: form finished, then the lowest-numbered tabbed line. With no tab: as 0D.
   unfoldable pub tab-to : NextTab → NextTab → Machine → Step
   tab-to (Tabbed n) lowest m = quiet (strike (first-row (m .printer .form) n) m)
   tab-to Untabbed (Tabbed n) m = finished (strike (first-row (m .printer .form) n) m)
-  tab-to Untabbed Untabbed m = no-move m
+  tab-to Untabbed Untabbed m = carriage-return m
 
   -- 0B: by the tabs below the current line, and by all of them
   unfoldable pub vertical-tab : Machine → Step
   vertical-tab m =
       let n : Line = current-line m in
-      guarded m
-      (tab-to (first-tab (next-line n) (drop (lines-through n) (line-tabs (m .printer .tabs))))
-      (first-tab first-line (line-tabs (m .printer .tabs))) m)
+      tab-to (first-tab (next-line n) (drop (lines-through n) (line-tabs (m .printer .tabs))))
+      (first-tab first-line (line-tabs (m .printer .tabs))) m

@@ -93,12 +93,11 @@ pub enum Fault {
     IllFormed,
 }
 
-// What comes of a byte: nothing to tell, a finished form, a note with its fault and place, or a terminator past the form's end.
+// What comes of a byte: nothing to tell, a finished form, or a note with its fault and place.
 pub enum Event {
     Quiet,
     Finished,
     Noted(Fault, u32),
-    Guard,
 }
 
 // What closing answers: the state is unsound, a command is unfinished that began at a place, the line is unprinted, or the job is clean.

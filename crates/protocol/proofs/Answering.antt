@@ -17,18 +17,13 @@ use Rattle.printer.specs.Machine.{Machine, shut, with-printer}
 use Rattle.printer.specs.Sound.{form-sound, sound}
 use Rattle.printer.specs.Steps.{Step, tell, tell-step}
 use Rattle.printer.proofs.Keeping.{step-counts}
-use Rattle.printer.specs.Room.{Ready}
-use Rattle.printer.proofs.Ready.{Allowed}
-use Rattle.printer.proofs.Soundness.{sound-facts}
-use Rattle.printer.proofs.StaysSound.{step-fine}
 use Rattle.protocol.specs.declared.Answer.{Answer}
-use Rattle.protocol.specs.declared.Answer.the-variants.{Done, Finished, Noted, JobFull, Unsound, Guarded, WrongLines, WrongSpacing}
+use Rattle.protocol.specs.declared.Answer.the-variants.{Done, Finished, Noted, JobFull, Unsound, WrongLines, WrongSpacing}
 use Rattle.protocol.specs.declared.Fit.{Fit}
 use Rattle.protocol.specs.declared.Fit.the-variants.{Right, Wrong}
 use Rattle.protocol.specs.Answers.{refusal}
 use Rattle.protocol.specs.Protocol.{used-up}
 use Rattle.protocol.specs.Calls.{Feeding, Opening, feed-fitted, feeding, fit, heard, limit, open-fitted, opening, stopped, take-bytes, unopened}
-use Rattle.protocol.proofs.Accepted.{right-fitting}
 
 -- A call that takes bytes of a piece of n is no refusal, counts the bytes that it takes, takes no more than there are, and all where it answers 0.
 record Taking (n : ℕ) (m : Machine) (f : Feeding) : Type 0 where
@@ -46,14 +41,13 @@ module _ (e : Edition) (font : List ℕ) where
   stopped-taking n a m q all = record { allowed = q; counted = omega arith; within = omega arith; all = all }
 
   heard-taking : (n : ℕ) (v : Event) (m x : Machine) (f : Feeding) → x .printer .job ≡ m .printer .job + 1 → Taking n x f
-      → Taking (suc n) m (heard v m x f)
+      → Taking (suc n) m (heard v x f)
   unfolding heard refusal
   heard-taking n event.Quiet m x f q k =
       record { allowed = k .allowed; counted = omega (arith, k .counted); within = omega (arith, k .within); all = λ d. ap suc (k .all d) }
   heard-taking n event.Finished m x f q k = record { allowed = refl; counted = q; within = omega arith; all = λ d. absurd (not-done Finished d refl) }
   heard-taking n (event.Noted g place) m x f q k =
       record { allowed = refl; counted = q; within = omega arith; all = λ d. absurd (not-done (Noted g place) d refl) }
-  heard-taking n event.Guard m x f q k = stopped-taking (suc n) Guarded m refl (λ d. absurd (not-done Guarded d refl))
 
   taking-if : (n : ℕ) (m : Machine) (f : Feeding) (t : Bool) → Taking n m f → Taking n m (cond t f (stopped JobFull m))
   unfolding refusal
@@ -68,44 +62,42 @@ module _ (e : Edition) (font : List ℕ) where
       taking-if (suc (length bs)) m _ (ltb (m .printer .job) limit)
       (heard-taking (length bs) (s .event) m (s .machine) _ (step-counts e font b m .1) (taking bs (s .machine)))
 
-  -- a byte below the limit is taken, by a machine that is ready
-  heard-moves : (v : Event) (m x : Machine) (f : Feeding) → Allowed v → 1 ≤ heard v m x f .taken
+  -- a byte below the limit is taken
+  heard-moves : (v : Event) (x : Machine) (f : Feeding) → 1 ≤ heard v x f .taken
   unfolding heard
-  heard-moves event.Quiet m x f a = omega arith
-  heard-moves event.Finished m x f a = omega arith
-  heard-moves (event.Noted g place) m x f a = omega arith
-  heard-moves event.Guard m x f a = absurd a
+  heard-moves event.Quiet x f = omega arith
+  heard-moves event.Finished x f = omega arith
+  heard-moves (event.Noted g place) x f = omega arith
 
-  moves : (b : ℕ) (bs : List ℕ) (m : Machine) → Ready e m → m .printer .job < limit → 1 ≤ take-bytes e font (b ∷ bs) m .taken
+  moves : (b : ℕ) (bs : List ℕ) (m : Machine) → m .printer .job < limit → 1 ≤ take-bytes e font (b ∷ bs) m .taken
   unfolding take-bytes
-  moves b bs m h l = rw (lt-ltb _ _ l) (heard-moves (step e font b m .event) m _ _ (step-fine h font b .allowed))
+  moves b bs m l = rw (lt-ltb _ _ l) (heard-moves (step e font b m .event) _ _)
 
--- what a feeding is: refused, with all as it came, or the bytes taken by a machine that is ready
+-- what a feeding is: refused, with all as it came, or the bytes taken
 data Fate (e : Edition) (font piece : List ℕ) (m : Machine) (f : Feeding) : Type 0 where
   refused : refusal (f .answer) ≡ true → f .taken ≡ 0 → f .machine ≡ m → Fate e font piece m f
-  taken : Ready e m → f ≡ take-bytes e font piece m → Fate e font piece m f
+  taken : f ≡ take-bytes e font piece m → Fate e font piece m f
 
 module _ (e : Edition) (font piece : List ℕ) (m : Machine) where
-  fitted-fate : (t : Fit) → fit e (m .printer .form) font m ≡ t → sound e (m .printer) ≡ true → Fate e font piece m (feed-fitted e font piece t m)
+  fitted-fate : (t : Fit) → Fate e font piece m (feed-fitted e font piece t m)
   unfolding feed-fitted refusal
-  fitted-fate Right q s = taken (record { printer = sound-facts e (m .printer) s; memory = right-fitting e (m .printer .form) font m refl q .memory }) refl
-  fitted-fate (Wrong lent) q s = refused refl refl refl
+  fitted-fate Right = taken refl
+  fitted-fate (Wrong lent) = refused refl refl refl
 
-  tested-fate : (t : Bool) → sound e (m .printer) ≡ t
-      → Fate e font piece m (cond t (feed-fitted e font piece (fit e (m .printer .form) font m) m) (stopped Unsound m))
+  tested-fate : (t : Bool) → Fate e font piece m (cond t (feed-fitted e font piece (fit e (m .printer .form) font m) m) (stopped Unsound m))
   unfolding refusal
-  tested-fate true q = fitted-fate (fit e (m .printer .form) font m) refl q
-  tested-fate false q = refused refl refl refl
+  tested-fate true = fitted-fate (fit e (m .printer .form) font m)
+  tested-fate false = refused refl refl refl
 
   fate : Fate e font piece m (feeding e font piece m)
   unfolding feeding
-  fate = tested-fate (sound e (m .printer)) refl
+  fate = tested-fate (sound e (m .printer))
 
 -- Answers 10 to 15 give back every lent store, and the state, as they came, and take no byte.
 module _ (e : Edition) (font piece : List ℕ) (m : Machine) where
   refused-unchanged : (f : Feeding) → Fate e font piece m f → refusal (f .answer) ≡ true → (f .taken ≡ 0) × (f .machine ≡ m)
   refused-unchanged f (refused r t q) h = (t, q)
-  refused-unchanged f (taken ready q) h =
+  refused-unchanged f (taken q) h =
       absurd (true≢false (sym h ∙ ap (λ (g : Feeding). refusal (g .answer)) q ∙ taking e font piece m .allowed))
 
   pub feeding-refused : refusal (feeding e font piece m .answer) ≡ true → (feeding e font piece m .taken ≡ 0) × (feeding e font piece m .machine ≡ m)
@@ -114,7 +106,7 @@ module _ (e : Edition) (font piece : List ℕ) (m : Machine) where
   -- every feeding counts the bytes that it takes, and takes no more than the piece has
   counts-taken : (f : Feeding) → Fate e font piece m f → (f .machine .printer .job ≡ m .printer .job + f .taken) × (f .taken ≤ length piece)
   counts-taken f (refused r t q) = (omega (arith, ap (λ (x : Machine). x .printer .job) q), omega arith)
-  counts-taken f (taken ready q) = rw q (taking e font piece m .counted, taking e font piece m .within)
+  counts-taken f (taken q) = rw q (taking e font piece m .counted, taking e font piece m .within)
 
   pub feeding-counts :
       (feeding e font piece m .machine .printer .job ≡ m .printer .job + feeding e font piece m .taken) × (feeding e font piece m .taken ≤ length piece)
@@ -124,7 +116,7 @@ module _ (e : Edition) (font piece : List ℕ) (m : Machine) where
   takes-all : (f : Feeding) → Fate e font piece m f → f .answer ≡ Done → f .taken ≡ length piece
   unfolding refusal
   takes-all f (refused r t q) d = absurd (true≢false (sym r ∙ ap refusal d))
-  takes-all f (taken ready q) d = ap (λ (g : Feeding). g .taken) q ∙ taking e font piece m .all (sym (ap (λ (g : Feeding). g .answer) q) ∙ d)
+  takes-all f (taken q) d = ap (λ (g : Feeding). g .taken) q ∙ taking e font piece m .all (sym (ap (λ (g : Feeding). g .answer) q) ∙ d)
 
   pub feeding-done : feeding e font piece m .answer ≡ Done → feeding e font piece m .taken ≡ length piece
   feeding-done d = takes-all _ (fate e font piece m) d
@@ -133,7 +125,7 @@ module _ (e : Edition) (font piece : List ℕ) (m : Machine) where
 module _ (e : Edition) (font : List ℕ) (b : ℕ) (bs : List ℕ) (m : Machine) where
   takes-one : (f : Feeding) → Fate e font (b ∷ bs) m f → refusal (f .answer) ≡ false → m .printer .job < limit → 1 ≤ f .taken
   takes-one f (refused r t q) h l = absurd (true≢false (sym r ∙ h))
-  takes-one f (taken ready q) h l = rw q (moves e font b bs m ready l)
+  takes-one f (taken q) h l = rw q (moves e font b bs m l)
 
   pub feeding-moves : refusal (feeding e font (b ∷ bs) m .answer) ≡ false → m .printer .job < limit → 1 ≤ feeding e font (b ∷ bs) m .taken
   feeding-moves h l = takes-one _ (fate e font (b ∷ bs) m) h l
@@ -144,7 +136,6 @@ unfolding tell
 tells-one e event.Quiet m = omega arith
 tells-one e event.Finished m = omega arith
 tells-one e (event.Noted f place) m = omega arith
-tells-one e event.Guard m = omega arith
 
 pub step-tells-one : (e : Edition) (font : List ℕ) (b : ℕ) (m : Machine) → length (tell-step e (step e font b m) .told) ≤ 1
 unfolding tell-step
@@ -176,35 +167,3 @@ module _ (e : Edition) (lines spacing : ℕ) (font : List ℕ) (m : Machine) whe
 pub shut-unsound : (e : Edition) → sound e shut ≡ false
 unfolding sound form-sound lines-allowed
 shut-unsound e = refl
-
--- No feeding answers 17: no byte meets the guard in a sound state.
-module _ (e : Edition) (font : List ℕ) where
-  abbrev Inside : Feeding → Type 0
-  Inside f = f .answer ≡ Guarded → ⊥
-
-  heard-inside : (v : Event) (m x : Machine) (f : Feeding) → Allowed v → Inside f → Inside (heard v m x f)
-  unfolding heard
-  heard-inside event.Quiet m x f a k d = k d
-  heard-inside event.Finished m x f a k d = let z : _≡_ {A = ℕ} 0 1 = cc in omega arith
-  heard-inside (event.Noted g place) m x f a k d = let z : _≡_ {A = ℕ} 0 1 = cc in omega arith
-  heard-inside event.Guard m x f a k d = absurd a
-
-  inside-if : (m : Machine) (f : Feeding) (t : Bool) → Inside f → Inside (cond t f (stopped JobFull m))
-  inside-if m f true k d = k d
-  inside-if m f false k d = let z : _≡_ {A = ℕ} 0 1 = cc in omega arith
-
-  taken-inside : (bs : List ℕ) (m : Machine) → Ready e m → Inside (take-bytes e font bs m)
-  unfolding take-bytes
-  taken-inside [] m h d = let z : _≡_ {A = ℕ} 0 1 = cc in omega arith
-  taken-inside (b ∷ bs) m h d =
-      let s : Step = step e font b m in
-      inside-if m _ (ltb (m .printer .job) limit)
-      (heard-inside (s .event) m (s .machine) _ (step-fine h font b .allowed) (taken-inside bs (s .machine) (step-fine h font b .ready))) d
-
-  fate-inside : (piece : List ℕ) (m : Machine) (f : Feeding) → Fate e font piece m f → Inside f
-  unfolding refusal
-  fate-inside piece m f (refused r t q) d = true≢false (sym r ∙ ap refusal d)
-  fate-inside piece m f (taken ready q) d = taken-inside piece m ready (sym (ap (λ (g : Feeding). g .answer) q) ∙ d)
-
-  pub never-past-form : (piece : List ℕ) (m : Machine) → feeding e font piece m .answer ≡ Guarded → ⊥
-  never-past-form piece m d = fate-inside piece m _ (fate e font piece m) d

@@ -19,8 +19,7 @@ use Rattle.printer.proofs.Appending.{run-append}
 use Rattle.printer.proofs.Keeping.{run-counts, step-counts, tell-printer}
 use Rattle.printer.proofs.Readings.{run-reading}
 use Rattle.printer.specs.Room.{Ready}
-use Rattle.printer.proofs.Ready.{Allowed}
-use Rattle.printer.proofs.StaysSound.{opened-ready, run-ready, step-fine, tell-ready}
+use Rattle.printer.proofs.StaysSound.{opened-ready, run-ready, step-ready, tell-ready}
 use Rattle.protocol.specs.declared.Answer.the-variants.{Done}
 use Rattle.protocol.specs.Calls.{Feeding, feeding, heard, limit, opening, take-bytes}
 use Rattle.protocol.specs.Protocol.{Delivery, answered, delivered, delivery, joined, offer}
@@ -33,7 +32,7 @@ module _ (e : Edition) (font : List ℕ) where
     fits : m .printer .job + length bs ≤ limit
 
   room-step : (b : ℕ) (bs : List ℕ) (m : Machine) → Room (b ∷ bs) m → Room bs (step e font b m .machine)
-  room-step b bs m r = record { ready = step-fine (r .ready) font b .ready; fits = omega (arith, r .fits, step-counts e font b m .1) }
+  room-step b bs m r = record { ready = step-ready (r .ready) font b; fits = omega (arith, r .fits, step-counts e font b m .1) }
 
   room-tell : (v : Event) (bs : List ℕ) (m : Machine) → Room bs m → Room bs (tell e v m .machine)
   room-tell v bs m r = record { ready = tell-ready v (r .ready); fits = omega (arith, r .fits, ap (λ (p : Printer). p .job) (tell-printer e v m)) }
@@ -46,14 +45,13 @@ module _ (e : Edition) (font : List ℕ) where
     abbrev GoesOn : List ℕ → Type 0
     GoesOn bs = (rest : List ℕ) (m : Machine) → length rest < length bs → Room rest m → go rest m ≡ delivered (run e font rest m)
 
-    heard-run : (b : ℕ) (bs : List ℕ) (v : Event) (m n : Machine) → Allowed v → Room bs n → GoesOn (b ∷ bs)
+    heard-run : (b : ℕ) (bs : List ℕ) (v : Event) (n : Machine) → Room bs n → GoesOn (b ∷ bs)
         → caller (take-bytes e font bs n) bs ≡ delivered (run e font bs n)
-        → caller (heard v m n (take-bytes e font bs n)) (b ∷ bs) ≡ delivered (then (tell e v n) (run e font bs))
+        → caller (heard v n (take-bytes e font bs n)) (b ∷ bs) ≡ delivered (then (tell e v n) (run e font bs))
     unfolding heard answered tell
-    heard-run b bs event.Quiet m n a r k ih = ih
-    heard-run b bs event.Finished m n a r k ih = rw (k bs _ (omega arith) (room-tell event.Finished bs n r))
-    heard-run b bs (event.Noted f place) m n a r k ih = rw (k bs _ (omega arith) r)
-    heard-run b bs event.Guard m n a r k ih = absurd a
+    heard-run b bs event.Quiet n r k ih = ih
+    heard-run b bs event.Finished n r k ih = rw (k bs _ (omega arith) (room-tell event.Finished bs n r))
+    heard-run b bs (event.Noted f place) n r k ih = rw (k bs _ (omega arith) r)
 
     call-run : (bs : List ℕ) (m : Machine) → Room bs m → GoesOn bs → caller (take-bytes e font bs m) bs ≡ delivered (run e font bs m)
     unfolding take-bytes run tell-step answered
@@ -61,7 +59,7 @@ module _ (e : Edition) (font : List ℕ) where
     call-run (b ∷ bs) m r k =
         let s : Step = step e font b m in
         rw (lt-ltb (m .printer .job) limit (omega (arith, r .fits)))
-        (heard-run b bs (s .event) m (s .machine) (step-fine (r .ready) font b .allowed) (room-step b bs m r) k
+        (heard-run b bs (s .event) (s .machine) (room-step b bs m r) k
         (call-run bs (s .machine) (room-step b bs m r) (λ rest x l w. k rest x (omega arith) w)))
 
   module _ (sized : length font ≡ 2048) where

@@ -17,7 +17,7 @@ use Rattle.sheet.proofs.Blackening.{In}
 use Rattle.sheet.proofs.Editions.{Proper}
 use Rattle.sheet.proofs.Struck.{on-page}
 use Rattle.printer.specs.declared.Event.{Event}
-use Rattle.printer.specs.declared.Event.the-variants.{Quiet, Finished, Noted, Guard}
+use Rattle.printer.specs.declared.Event.the-variants.{Quiet, Finished, Noted}
 use Rattle.printer.specs.Bytes.{step}
 use Rattle.printer.specs.Machine.{Machine}
 use Rattle.printer.specs.Sound.{sound}
@@ -27,9 +27,8 @@ use Rattle.printer.proofs.Dots.{AllFitting, fitting-append, fitting-on-form, st
 use Rattle.printer.proofs.Keeping.{step-counts}
 use Rattle.printer.proofs.Pages.{step-page}
 use Rattle.printer.specs.Room.{Ready}
-use Rattle.printer.proofs.Ready.{Allowed}
 use Rattle.printer.proofs.Soundness.{sound-facts}
-use Rattle.printer.proofs.StaysSound.{step-fine}
+use Rattle.printer.proofs.StaysSound.{step-ready}
 use Rattle.protocol.specs.declared.Answer.{Answer}
 use Rattle.protocol.specs.declared.Answer.the-variants.{Done, JobFull, Misfit, Unsound}
 use Rattle.protocol.specs.declared.Fit.{Fit}
@@ -48,20 +47,19 @@ module _ (e : Edition) (font : List ℕ) where
   unfolding strike-all
   unstruck f a m = record { page-after = refl; fitting = tt }
 
-  heard-inked : (f : Form) (page : List ℕ) (ss rest : List Strike) (v : Event) (m n : Machine) (after : Feeding) → Allowed v
+  heard-inked : (f : Form) (page : List ℕ) (ss rest : List Strike) (v : Event) (n : Machine) (after : Feeding)
       → AllFitting e f ss → n .page ≡ strike-all e ss page → Inked f (n .page) rest after
-      → Inked f page (ss ++ if-quiet v rest) (heard v m n after)
+      → Inked f page (ss ++ if-quiet v rest) (heard v n after)
   unfolding heard if-quiet strike-all
-  heard-inked f page ss rest Quiet m n after a on q k =
+  heard-inked f page ss rest Quiet n after on q k =
       record {
         page-after = k .page-after ∙ ap (strike-all e rest) q ∙ sym (strike-all-append e ss rest page);
         fitting = fitting-append e f ss rest on (k .fitting);
       }
-  heard-inked f page ss rest Finished m n after a on q k =
+  heard-inked f page ss rest Finished n after on q k =
       record { page-after = q ∙ sym (strike-all-append e ss [] page); fitting = fitting-append e f ss [] on tt }
-  heard-inked f page ss rest (Noted g place) m n after a on q k =
+  heard-inked f page ss rest (Noted g place) n after on q k =
       record { page-after = q ∙ sym (strike-all-append e ss [] page); fitting = fitting-append e f ss [] on tt }
-  heard-inked f page ss rest Guard m n after a on q k = absurd a
 
   inked-if : (f : Form) (m : Machine) (ss : List Strike) (left : Feeding) (t : Bool) → Inked f (m .page) ss left
       → Inked f (m .page) (cond t ss []) (cond t left (stopped JobFull m))
@@ -75,9 +73,9 @@ module _ (e : Edition) (font : List ℕ) where
   taken-inked (b ∷ bs) m f q h =
       let s : Step = step e font b m in
       inked-if f m _ _ (ltb (m .printer .job) limit)
-      (heard-inked f (m .page) (strikes-of b m) _ (s .event) m (s .machine) _ (step-fine h font b .allowed)
+      (heard-inked f (m .page) (strikes-of b m) _ (s .event) (s .machine) _
       (subst (λ (g : Form). AllFitting e g (strikes-of b m)) q (strikes-fitting h b)) (step-page e font b m)
-      (taken-inked bs (s .machine) f (step-counts e font b m .0 ∙ q) (step-fine h font b .ready)))
+      (taken-inked bs (s .machine) f (step-counts e font b m .0 ∙ q) (step-ready h font b)))
 
   fitted-inked : (piece : List ℕ) (m : Machine) (t : Fit) → fit e (m .printer .form) font m ≡ t → sound e (m .printer) ≡ true
       → Inked (m .printer .form) (m .page) (fitted-strikes e font piece t m) (feed-fitted e font piece t m)

@@ -20,7 +20,6 @@ use Rattle.printer.specs.Given.{machine}
 use Rattle.printer.specs.Machine.{Machine}
 use Rattle.printer.specs.Room.{Ready, Room}
 use Rattle.printer.specs.Steps.{Step}
-use Rattle.printer.proofs.Ready.{Allowed}
 use Rattle.protocol.specs.declared.Answer.the-variants.{Done, JobFull}
 use Rattle.protocol.specs.Calls.{Feeding, heard, limit, one-more, stopped, take-bytes}
 use Rattle.protocol.specs.Given.{answer-to, given-feeding, is-quiet, more}
@@ -32,6 +31,7 @@ unfolding lp2
 ready-room {p} h f =
     record {
       lines = h .printer .form .most;
+      row = h .printer .head .row;
       column = omega (arith, h .printer .head .column, lp2-proper .wide (p .style .pitch));
       page = h .memory .page;
       line = h .memory .line;
@@ -49,20 +49,18 @@ more-zero f = let e : f .taken ≡ 0 + f .taken = omega arith in ap (λ (n : ℕ
 more-stopped : (i : ℕ) (f : Feeding) → f .taken ≡ 0 → more i f ≡ with-taken i f
 more-stopped i f q = let e : i + f .taken ≡ i = omega arith in ap (λ (n : ℕ). with-taken n f) e
 
-heard-quiet : (v : Event) (m x : Machine) (f : Feeding) → is-quiet v ≡ true → heard v m x f ≡ one-more f
+heard-quiet : (v : Event) (x : Machine) (f : Feeding) → is-quiet v ≡ true → heard v x f ≡ one-more f
 unfolding heard
-heard-quiet event.Quiet m x f q = refl
-heard-quiet event.Finished m x f q = absurd (true≢false (sym q))
-heard-quiet (event.Noted g place) m x f q = absurd (true≢false (sym q))
-heard-quiet event.Guard m x f q = absurd (true≢false (sym q))
+heard-quiet event.Quiet x f q = refl
+heard-quiet event.Finished x f q = absurd (true≢false (sym q))
+heard-quiet (event.Noted g place) x f q = absurd (true≢false (sym q))
 
-heard-told : (i : ℕ) (v : Event) (m : Machine) (p q : Printer) (page line staging store : List ℕ) (f : Feeding) → is-quiet v ≡ false → Allowed v
-    → more i (heard v m (machine q page line staging store) f) ≡ given-feeding (answer-to v p q i) page line staging store
+heard-told : (i : ℕ) (v : Event) (p : Printer) (page line staging store : List ℕ) (f : Feeding) → is-quiet v ≡ false
+    → more i (heard v (machine p page line staging store) f) ≡ given-feeding (answer-to v p i) page line staging store
 unfolding heard
-heard-told i event.Quiet m p q page line staging store f n a = absurd (true≢false n)
-heard-told i event.Finished m p q page line staging store f n a = refl
-heard-told i (event.Noted g place) m p q page line staging store f n a = refl
-heard-told i event.Guard m p q page line staging store f n a = absurd a
+heard-told i event.Quiet p page line staging store f n = absurd (true≢false n)
+heard-told i event.Finished p page line staging store f n = refl
+heard-told i (event.Noted g place) p page line staging store f n = refl
 
 module _ (font piece : List ℕ) (i : ℕ) (m : Machine) where
   -- the bytes that are left, with the count of those that were taken
@@ -84,12 +82,11 @@ module _ (font piece : List ℕ) (i : ℕ) (m : Machine) where
         let rest : Feeding = take-bytes lp2 font (drop (i + 1) piece) (s .machine) in
         let e : i + suc (rest .taken) ≡ i + 1 + rest .taken = omega arith in
         simp (drop-cons piece i 0 h, lt-ltb _ _ room, ← is, ← add-one i)
-        (ap (more i) (heard-quiet (s .event) m (s .machine) rest q) ∙ ap (λ (n : ℕ). with-taken n rest) e)
+        (ap (more i) (heard-quiet (s .event) (s .machine) rest q) ∙ ap (λ (n : ℕ). with-taken n rest) e)
 
-    pub taken-out : is-quiet (s .event) ≡ false → Allowed (s .event) → (p : Printer)
-        → left
-        ≡ given-feeding (answer-to (s .event) p (s .machine .printer) i) (s .machine .page) (s .machine .line) (s .machine .staging) (s .machine .store)
+    pub taken-out : is-quiet (s .event) ≡ false
+        → left ≡ given-feeding (answer-to (s .event) (s .machine .printer) i) (s .machine .page) (s .machine .line) (s .machine .staging) (s .machine .store)
     unfolding take-bytes
-    taken-out n a p =
+    taken-out n =
         simp (drop-cons piece i 0 h, lt-ltb _ _ room, ← is)
-        (heard-told i (s .event) m p (s .machine .printer) (s .machine .page) (s .machine .line) (s .machine .staging) (s .machine .store) _ n a)
+        (heard-told i (s .event) (s .machine .printer) (s .machine .page) (s .machine .line) (s .machine .staging) (s .machine .store) _ n)

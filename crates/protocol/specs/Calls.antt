@@ -14,7 +14,7 @@ use Rattle.printer.specs.Machine.{Machine, opened, shut, with-printer}
 use Rattle.printer.specs.Sound.{sound}
 use Rattle.printer.specs.Steps.{Step}
 use Rattle.protocol.specs.declared.Answer.{Answer}
-use Rattle.protocol.specs.declared.Answer.the-variants.{Done, Finished, Noted, JobFull, Unsound, Misfit, Guarded, WrongLines, WrongSpacing}
+use Rattle.protocol.specs.declared.Answer.the-variants.{Done, Finished, Noted, JobFull, Unsound, Misfit, WrongLines, WrongSpacing}
 use Rattle.protocol.specs.declared.Fit.{Fit}
 use Rattle.protocol.specs.declared.Fit.the-variants.{Right, Wrong}
 use Rattle.protocol.specs.declared.Lent.the-variants.{Page, LineStore, Staging, DownloadStore, Font}
@@ -73,20 +73,18 @@ one-more f = record { answer = f .answer; taken = suc (f .taken); machine = f .m
 abbrev pub limit : ℕ
 limit = 4294967295
 
--- One byte taken by machine m leads to machine n: an event that is to be told ends the call through that byte, a guard before it; a quiet byte
--- leaves it to the bytes that follow.
-unfoldable pub heard : Event → Machine → Machine → Feeding → Feeding
-heard event.Quiet m n after = one-more after
-heard event.Finished m n after = record { answer = Finished; taken = 1; machine = n }
-heard (event.Noted f place) m n after = record { answer = Noted f place; taken = 1; machine = n }
-heard event.Guard m n after = stopped Guarded m
+-- One byte leads to machine m: an event that is to be told ends the call through that byte; a quiet byte leaves it to the bytes that follow.
+unfoldable pub heard : Event → Machine → Feeding → Feeding
+heard event.Quiet m after = one-more after
+heard event.Finished m after = record { answer = Finished; taken = 1; machine = m }
+heard (event.Noted f place) m after = record { answer = Noted f place; taken = 1; machine = m }
 
 -- the bytes of a piece, taken one after the other while they fit the job
 unfoldable pub take-bytes : Edition → List ℕ → List ℕ → Machine → Feeding
 take-bytes e font [] m = stopped Done m
 take-bytes e font (b ∷ bs) m =
     let s : Step = step e font b m in
-    cond (ltb (m .printer .job) limit) (heard (s .event) m (s .machine) (take-bytes e font bs (s .machine))) (stopped JobFull m)
+    cond (ltb (m .printer .job) limit) (heard (s .event) (s .machine) (take-bytes e font bs (s .machine))) (stopped JobFull m)
 
 -- 11 to 15 in order, then bytes
 unfoldable pub feed-fitted : Edition → List ℕ → List ℕ → Fit → Machine → Feeding

@@ -50,7 +50,6 @@ pub fn answer_number(answer: Answer) -> u64
         Answer::JobFull => 3,
         Answer::Unsound => 10,
         Answer::Misfit(lent) => lent_number(lent),
-        Answer::Guarded => 17,
         Answer::WrongLines => 18,
         Answer::WrongSpacing => 19,
     }
@@ -67,7 +66,6 @@ pub fn noted_number(answer: Answer) -> u64
         Answer::JobFull => 0,
         Answer::Unsound => 0,
         Answer::Misfit(_) => 0,
-        Answer::Guarded => 0,
         Answer::WrongLines => 0,
         Answer::WrongSpacing => 0,
     }
@@ -84,7 +82,6 @@ pub fn noted_place(answer: Answer) -> u64
         Answer::JobFull => 0,
         Answer::Unsound => 0,
         Answer::Misfit(_) => 0,
-        Answer::Guarded => 0,
         Answer::WrongLines => 0,
         Answer::WrongSpacing => 0,
     }
@@ -101,7 +98,6 @@ pub fn refusal(answer: Answer) -> bool
         Answer::JobFull => false,
         Answer::Unsound => true,
         Answer::Misfit(_) => true,
-        Answer::Guarded => false,
         Answer::WrongLines => true,
         Answer::WrongSpacing => true,
     }

@@ -10,7 +10,7 @@ use Rattle.printer.specs.Given.{machine}
 use Rattle.printer.specs.Machine.{Machine}
 use Rattle.printer.specs.Steps.{Step, quiet}
 use Rattle.printer.specs.Room.{Ready}
-use Rattle.printer.proofs.StaysSound.{step-fine}
+use Rattle.printer.proofs.StaysSound.{step-ready}
 use Rattle.protocol.specs.Calls.{limit}
 use Rattle.protocol.proofs.Taking.{more-zero, taken-on}
 use Rattle.runs.specs.declared.Ran.{Ran}
@@ -25,7 +25,7 @@ pub leads-on : {font piece : List ℕ} {n : ℕ} {m a : Machine} → Leads font 
 leads-on {font} {piece} {n} {m} {a} h l room b q =
     record {
       within = omega arith;
-      ready = λ r. subst (λ (s : Step). Ready lp2 (s .machine)) q (step-fine (h .ready r) font (getD piece n 0) .ready);
+      ready = λ r. subst (λ (s : Step). Ready lp2 (s .machine)) q (step-ready (h .ready r) font (getD piece n 0));
       same = h .same ∙ taken-on font piece n a (quiet b) (sym q) l room refl;
     }
 

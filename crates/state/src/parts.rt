@@ -1,7 +1,7 @@
 // One part of the state changed, and what came of a byte.
 ghost use mathlib.Core.Path.{_≡_};
 ghost use Rattle.sheet.specs.Edition.{lp2};
-ghost use Rattle.printer.specs.declared.Event.the-variants.{Quiet, Finished, Noted, Guard};
+ghost use Rattle.printer.specs.declared.Event.the-variants.{Quiet, Finished, Noted};
 ghost use Rattle.printer.specs.Escapes.{after-reset, begin-plot, clear-tabs, set-downloaded, set-elongated, set-pitch, set-underscore};
 ghost use Rattle.printer.specs.Given.{bare, stepped};
 ghost use Rattle.printer.specs.Machine.{fresh-head, with-head, with-pending};
@@ -45,16 +45,6 @@ pub fn noted(p: Printer, fault: Fault, place: u32) -> Stepped
     Stepped {
         printer: p,
         event: Event::Noted(fault, place),
-    }
-}
-
-// A terminator that would strike past the form.
-pub fn guard(p: Printer) -> Stepped
-    ensures { λ r. ⌜ r ≡ stepped p Guard ⌝ }
-{
-    Stepped {
-        printer: p,
-        event: Event::Guard,
     }
 }
 

@@ -18,7 +18,6 @@ pub enum Answer {
     JobFull,
     /// 10 to 15.
     Refused(u8),
-    Guard,
 }
 
 impl Answer {
@@ -29,7 +28,6 @@ impl Answer {
             Answer::Note(..) => 2,
             Answer::JobFull => 3,
             Answer::Refused(number) => number,
-            Answer::Guard => 17,
         }
     }
 }
@@ -88,12 +86,6 @@ pub fn feed(state: &mut State, lent: &mut Lent, piece: &[u8]) -> Fed {
             };
         }
         let outcome = take(state, lent, byte);
-        if outcome == Outcome::Guard {
-            return Fed {
-                answer: Answer::Guard,
-                taken,
-            };
-        }
         state.job += 1;
         let taken = taken + 1;
         match outcome {
@@ -109,7 +101,7 @@ pub fn feed(state: &mut State, lent: &mut Lent, piece: &[u8]) -> Fed {
                     taken,
                 };
             }
-            Outcome::Quiet | Outcome::Guard => {}
+            Outcome::Quiet => {}
         }
     }
     Fed {

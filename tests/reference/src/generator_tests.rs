@@ -36,7 +36,7 @@ fn generated_scripts_replay_to_their_end() {
             .count(),
         200
     );
-    for never in ["FED 3 ", "FED 10 ", "FED 17 ", "CLOSE 10"] {
+    for never in ["FED 3 ", "FED 10 ", "CLOSE 10"] {
         assert!(
             !output.lines().any(|line| line.starts_with(never)),
             "{never}"

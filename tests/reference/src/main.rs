@@ -33,6 +33,8 @@ mod bench;
 #[cfg(test)]
 mod decisions_tests;
 #[cfg(test)]
+mod form_end_tests;
+#[cfg(test)]
 mod generator_tests;
 #[cfg(test)]
 mod table_tests;

@@ -49,6 +49,4 @@ pub enum Outcome {
     Finished,
     /// The byte ended a faulty command or list item.
     Note(Fault, u32),
-    /// 17: a terminator past the form's end; the byte is not taken.
-    Guard,
 }

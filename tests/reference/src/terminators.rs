@@ -16,11 +16,9 @@ pub enum Terminator {
 /// Rows that 0A moves on a plot line, at either spacing.
 const PLOT_ROWS: u32 = 7;
 
-/// Each terminator strikes the line, then moves.
+/// Each terminator strikes the line, then moves. The row fits: it did when the
+/// piece was fed, as soundness asks, and no byte moves to one that does not.
 pub fn take(state: &mut State, lent: &mut Lent, terminator: Terminator) -> Outcome {
-    if !state.form.fits(state.row) {
-        return Outcome::Guard;
-    }
     let step = if state.plot_line {
         PLOT_ROWS
     } else {

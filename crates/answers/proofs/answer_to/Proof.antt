@@ -12,11 +12,8 @@ returns-2 c = simp (c .given2 .ensures, c .before .enum-told2 .given .1)
 returns-3 : tie.Need-returns-3
 returns-3 c = simp (c .given3 .ensures, c .before .before .event .given .1)
 
-returns-4 : tie.Need-returns-4
-returns-4 c = simp (c .given4 .ensures, c .before .enum-told3 .given .1)
-
 pub answer-to-spec : {M : Type 1} → statement M
 answer-to-spec =
     tie.close
     (tie.spec (λ c. search needs) (λ c. search needs) (λ c κs. search needs) (λ c. search needs) (λ c. search needs) (λ c κs. search needs)
-    (λ c. search needs) (λ c. search needs) (λ c κs. search needs) (λ c. search needs) (λ c κs. search needs) returns returns-2 returns-3 returns-4)
+    (λ c. search needs) (λ c. search needs) (λ c κs. search needs) returns returns-2 returns-3)

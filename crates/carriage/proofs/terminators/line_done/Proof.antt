@@ -2,10 +2,14 @@
 mod Places
 use borrow.Author.Needs.{needs}
 use Rattle.printer.specs.Given.{machine}
+use Rattle.carriage.proofs.Rooms.{on-page}
 use Rattle.carriage.proofs.Struck.{done}
 use Rattle.carriage.proofs.terminators.line_done.Statement.{statement}
 use Rattle.carriage.proofs.terminators.line_done.Tie as tie
 use Places.*
+
+strike-requires : tie.Need-strike-requires
+strike-requires c κs = on-page (start-at-strike-requires c .pre)
 
 returns : tie.Need-returns
 returns c staging store =
@@ -15,4 +19,4 @@ returns c staging store =
 pub line-done-spec : {M : Type 1} → statement M
 line-done-spec =
     tie.close
-    (tie.spec (λ c κs. search needs) (λ c κs. search needs) (λ c κs. search needs) (λ c. search needs) (λ c. search needs) returns)
+    (tie.spec strike-requires (λ c κs. search needs) (λ c κs. search needs) (λ c. search needs) (λ c. search needs) returns)

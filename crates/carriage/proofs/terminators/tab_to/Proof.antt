@@ -9,10 +9,10 @@ use Rattle.carriage.proofs.terminators.tab_to.Tie as tie
 use Places.*
 
 first-row-requires : tie.Need-first-row-requires
-first-row-requires c κs = let k = subst Kept (c .before .below .given .1) (start-at-first-row-requires c .pre .2) in search needs
+first-row-requires c κs = let k = subst Kept (c .before .below .given .1) (start-at-first-row-requires c .pre .1) in search needs
 
 first-row-requires-2 : tie.Need-first-row-requires-2
-first-row-requires-2 c κs = let k = subst Kept (c .before .lowest .given .1) (start-at-first-row-requires-2 c .pre .3) in search needs
+first-row-requires-2 c κs = let k = subst Kept (c .before .lowest .given .1) (start-at-first-row-requires-2 c .pre .2) in search needs
 
 returns : tie.Need-returns
 returns c staging store =
@@ -25,7 +25,7 @@ returns-2 c staging store =
 
 returns-3 : tie.Need-returns-3
 returns-3 c staging store =
-    line-done2-at-returns-3 c .line-done2 .ensures staging store
+    carriage-return-at-returns-3 c .carriage-return .ensures staging store
     ∙ stays _ (enum-told-at-returns-3 c .enum-told .given .1) (enum-told2-at-returns-3 c .enum-told2 .given .1)
 
 pub tab-to-spec : {M : Type 1} → statement M

@@ -150,7 +150,7 @@ returns-3 c =
     let s = step-at-returns-3 c in
     simp (c .answer-to .ensures)
     (sym (told {m = ran-to (run-at-step s)} (ran (run-at-step s)) (more (else1-at-step s)) (room (else2-at-step s)) (stepped s) (s .step .ensures)
-    (sym (c .before .before .is-quiet .ensures) ∙ not-true (c .before .before .is-quiet .result) (c .before .if3 .taken)) _))
+    (sym (c .before .before .is-quiet .ensures) ∙ not-true (c .before .before .is-quiet .result) (c .before .if3 .taken))))
 
 add-i : tie.Need-add-i Inv-loop μ-loop
 add-i c = omega (arith, more (else1-at-add-i c), start-at-add-i c)

@@ -4,5 +4,8 @@ use Rattle.carriage.proofs.terminators.form_done.Tie as tie
 abbrev pub start-at-returns : tie.After-finished → tie.Start
 start-at-returns c = c .before .before .before .before .before .before .before .before .before .before .before .before .before
 
+abbrev pub start-at-strike-requires : tie.After-strike-arg2 → tie.Start
+start-at-strike-requires c = c .before .before .before .before .before .before
+
 abbrev pub strike-at-returns : tie.After-finished → tie.After-strike
 strike-at-returns c = c .before .before .before .before .before .before

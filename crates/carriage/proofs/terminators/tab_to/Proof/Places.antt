@@ -4,14 +4,17 @@ use Rattle.carriage.proofs.terminators.tab_to.Tie as tie
 abbrev pub below-at-returns : tie.After-slice-known4 → tie.After-below
 below-at-returns c = c .before .before .before .before .before .before .before .before .before
 
+abbrev pub carriage-return-at-returns-3 : tie.After-slice-known8 → tie.After-carriage-return
+carriage-return-at-returns-3 c = c .before .before .before .before
+
 abbrev pub enum-told-at-returns-2 : tie.After-slice-known6 → tie.After-enum-told
 enum-told-at-returns-2 c = c .before .before .before .before .before .before .before .before .before .before .before
 
 abbrev pub enum-told-at-returns-3 : tie.After-slice-known8 → tie.After-enum-told
-enum-told-at-returns-3 c = c .before .before .before .before .before .before .before .before .before .before
+enum-told-at-returns-3 c = c .before .before .before .before .before .before .before .before .before
 
 abbrev pub enum-told2-at-returns-3 : tie.After-slice-known8 → tie.After-enum-told2
-enum-told2-at-returns-3 c = c .before .before .before .before .before .before .before .before
+enum-told2-at-returns-3 c = c .before .before .before .before .before .before .before
 
 abbrev pub first-row-at-returns : tie.After-slice-known4 → tie.After-first-row
 first-row-at-returns c = c .before .before .before .before .before .before .before
@@ -24,9 +27,6 @@ form-done-at-returns-2 c = c .before .before .before .before
 
 abbrev pub line-done-at-returns : tie.After-slice-known4 → tie.After-line-done
 line-done-at-returns c = c .before .before .before .before
-
-abbrev pub line-done2-at-returns-3 : tie.After-slice-known8 → tie.After-line-done2
-line-done2-at-returns-3 c = c .before .before .before .before
 
 abbrev pub lowest-at-returns-2 : tie.After-slice-known6 → tie.After-lowest
 lowest-at-returns-2 c = c .before .before .before .before .before .before .before .before .before

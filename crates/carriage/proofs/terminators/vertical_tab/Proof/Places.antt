@@ -1,33 +1,23 @@
 -- The places that the proof of `terminators::vertical_tab` names. Made by tools/places; nobody has to read it.
 use Rattle.carriage.proofs.terminators.vertical_tab.Tie as tie
 
-abbrev pub else1-at-returns-2 : tie.After-slice-known4 → tie.Else1
-else1-at-returns-2 c = c .before .before .before .before .before .before .before .before .before .before
+abbrev pub first-tab-at-returns : tie.After-slice-known4 → tie.After-first-tab
+first-tab-at-returns c = c .before .before .before .before .before .before .before .before
 
-abbrev pub else1-at-tab-to-requires : tie.After-tab-to-arg2 → tie.Else1
-else1-at-tab-to-requires c = c .before .before .before .before .before
+abbrev pub first-tab2-at-returns : tie.After-slice-known4 → tie.After-first-tab2
+first-tab2-at-returns c = c .before .before .before .before .before .before .before
 
-abbrev pub first-tab-at-returns-2 : tie.After-slice-known4 → tie.After-first-tab
-first-tab-at-returns-2 c = c .before .before .before .before .before .before .before .before
-
-abbrev pub first-tab2-at-returns-2 : tie.After-slice-known4 → tie.After-first-tab2
-first-tab2-at-returns-2 c = c .before .before .before .before .before .before .before
-
-abbrev pub line-of-at-returns-2 : tie.After-slice-known4 → tie.After-line-of
-line-of-at-returns-2 c = c .before .before .before .before .before .before .before .before .before
-
-abbrev pub start-at-else1 : tie.Else1 → tie.Start
-start-at-else1 c = c .before .before .before .before .before .before
+abbrev pub line-of-at-returns : tie.After-slice-known4 → tie.After-line-of
+line-of-at-returns c = c .before .before .before .before .before .before .before .before .before
 
 abbrev pub start-at-first-tab-requires : tie.After-line-of → tie.Start
-start-at-first-tab-requires c = c .before .before .before .before .before .before .before
+start-at-first-tab-requires c = c .before .before .before .before .before
 
-abbrev pub start-at-returns-2 : tie.After-slice-known4 → tie.Start
-start-at-returns-2 c = c .before .before .before .before .before .before .before .before .before .before .before .before .before .before .before
-    .before
+abbrev pub start-at-returns : tie.After-slice-known4 → tie.Start
+start-at-returns c = c .before .before .before .before .before .before .before .before .before .before .before .before .before .before
 
 abbrev pub start-at-tab-to-requires : tie.After-tab-to-arg2 → tie.Start
-start-at-tab-to-requires c = c .before .before .before .before .before .before .before .before .before .before .before
+start-at-tab-to-requires c = c .before .before .before .before .before .before .before .before .before
 
-abbrev pub tab-to-at-returns-2 : tie.After-slice-known4 → tie.After-tab-to
-tab-to-at-returns-2 c = c .before .before .before .before
+abbrev pub tab-to-at-returns : tie.After-slice-known4 → tie.After-tab-to
+tab-to-at-returns c = c .before .before .before .before
