@@ -1,14 +1,13 @@
 -- What a line that can be struck has: rows on the page, and a row and a line within bounds.
-use Prim.Native.Nat.{ℕ, _+_, _*_, _≤_}
+use Prim.Native.Nat.{ℕ, _≤_}
 use mathlib.Core.List.{List}
 use mathlib.Core.Path.{_≡_}
 use native.Mathlib.Nat.{mul-le-mul-right}
 use native.Mathlib.Omega.{arith}
 use borrow.Author.Tests.{le-leb}
-use lib.ListN.{length}
 use Rattle.sheet.specs.declared.Line.{Line}
 use Rattle.sheet.specs.Edition.{lp2}
-use Rattle.sheet.specs.Form.{fits, form-rows, line-of, page-bytes}
+use Rattle.sheet.specs.Form.{fits, line-of, page-bytes}
 use Rattle.sheet.proofs.Units.{form-rows-most, line-inside}
 use Rattle.striking.specs.Room.{Room}
 use Rattle.printer.specs.declared.Printer.{Printer}

@@ -48,11 +48,9 @@ fn form_done(p: Printer, next: Row, page: &mut [u8], line: &mut [u16]) -> Steppe
         → given r (now (page .exit)) (now (line .exit)) staging store
         ≡ finished (strike lp2 next (machine p (now (page .entry)) (now (line .entry)) staging store))) ⌝ }
 {
-    let row = p.head.row;
-    let style = p.style;
-    let pitch = style.pitch;
-    strike(page, line, row, pitch);
-    finished(fresh(p, next))
+    let s = line_done(p, next, page, line);
+    let after = s.printer;
+    finished(after)
 }
 
 // The rows that a newline moves down.

@@ -1,6 +1,6 @@
 -- Every byte keeps a machine ready, its state sound and its memory of its lengths.
 use Prim.Native.Nat.{ℕ, zero-le, _+_, _-_, _*_, _%_, _≤_, _<_}
-use mathlib.Core.Bool.{Bool, true, false, not, _||_, and-eq-true-iff, true≢false}
+use mathlib.Core.Bool.{Bool, true, false, not, and-eq-true-iff, true≢false}
 use mathlib.Core.List.{List, [], _∷_}
 use mathlib.Core.Path.{_≡_, refl, sym, subst, _∙_}
 use native.Mathlib.Omega.{arith}
@@ -41,7 +41,7 @@ use Rattle.printer.specs.Machine.{Machine, fresh-head, opened, with-job,
 use Rattle.printer.specs.Plotting.{plot, plot-byte, plot-escape, leave-plot}
 use Rattle.printer.specs.Printing.{entered, moved-to, print}
 use Rattle.printer.specs.Sound.{begun, at-most-escape}
-use Rattle.printer.specs.Steps.{Step, tell, tell-step}
+use Rattle.printer.specs.Steps.{tell, tell-step}
 use Rattle.printer.specs.Tabs.{line-tabs}
 use Rattle.printer.specs.Terminators.{carriage-return, current-line, form-feed, newline, strike, tab-to, vertical-tab}
 use Rattle.printer.specs.Room.{Ready}
@@ -90,7 +90,7 @@ module _ {e : Edition} {m : Machine} (h : Ready e m) where
 
   newline-ready : Ready e (newline e m .machine)
   unfolding newline
-  newline-ready = ready-test (fits form _) _ _ (strike-ready _) (λ _. strike-ready top form-top)
+  newline-ready = search (ready-test, strike-ready, form-top)
 
   form-feed-ready : Ready e (form-feed e m .machine)
   unfolding form-feed

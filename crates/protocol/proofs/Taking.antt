@@ -6,11 +6,9 @@ use mathlib.Core.Path.{_≡_, refl, ap, sym, _∙_}
 use native.Mathlib.Numerals.{add-one}
 use native.Mathlib.Omega.{arith}
 use borrow.Author.Tests.{le-ltb, lt-ltb}
-use lib.ListN.{drop, drop-of-length-le, getD, length, replicate}
+use lib.ListN.{drop, drop-of-length-le, getD, length}
 use lib.Seq.{drop-cons}
-use Rattle.sheet.specs.declared.Form.{Form}
 use Rattle.sheet.specs.Edition.{lp2}
-use Rattle.sheet.specs.Form.{blank-page, page-bytes}
 use Rattle.sheet.proofs.Editions.{lp2-proper}
 use Rattle.printer.specs.declared.Event.{Event}
 use Rattle.printer.specs.declared.Event.the-variants as event

@@ -1,22 +1,15 @@
--- `terminators::form_done`: the strike inks the page and empties the line, `fresh` moves the head: together the definition's strike.
+-- `terminators::form_done`: what `line_done` leaves is kept, and another event told of it.
 mod Places
 use borrow.Author.Needs.{needs}
-use Rattle.printer.specs.Given.{machine}
-use Rattle.carriage.proofs.Rooms.{on-page}
-use Rattle.carriage.proofs.Struck.{done}
+use mathlib.Core.Path.{ap}
+use Rattle.printer.specs.Steps.{Step, finished}
 use Rattle.carriage.proofs.terminators.form_done.Statement.{statement}
 use Rattle.carriage.proofs.terminators.form_done.Tie as tie
 use Places.*
 
-strike-requires : tie.Need-strike-requires
-strike-requires c κs = on-page (start-at-strike-requires c .pre)
-
 returns : tie.Need-returns
 returns c staging store =
-    let a = start-at-returns c .args in let s = strike-at-returns c .strike in
-    done (machine (a .p) (a .page .now) (a .line .now) staging store) (c .finished .ensures) (c .before .fresh .ensures) (s .ensures .0) (s .ensures .1)
+    simp (c .finished .ensures) (ap (λ (s : Step). finished (s .machine)) (line-done-at-returns c .line-done .ensures staging store))
 
 pub form-done-spec : {M : Type 1} → statement M
-form-done-spec =
-    tie.close
-    (tie.spec strike-requires (λ c κs. search needs) (λ c κs. search needs) (λ c. search needs) (λ c. search needs) returns)
+form-done-spec = tie.close (tie.spec (λ c κs. search needs) (λ c κs. search needs) (λ c. search needs) (λ c. search needs) returns)

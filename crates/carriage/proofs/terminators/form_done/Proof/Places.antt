@@ -1,11 +1,5 @@
 -- The places that the proof of `terminators::form_done` names. Made by tools/places; nobody has to read it.
 use Rattle.carriage.proofs.terminators.form_done.Tie as tie
 
-abbrev pub start-at-returns : tie.After-finished → tie.Start
-start-at-returns c = c .before .before .before .before .before .before .before .before .before .before .before .before .before
-
-abbrev pub start-at-strike-requires : tie.After-strike-arg2 → tie.Start
-start-at-strike-requires c = c .before .before .before .before .before .before
-
-abbrev pub strike-at-returns : tie.After-finished → tie.After-strike
-strike-at-returns c = c .before .before .before .before .before .before
+abbrev pub line-done-at-returns : tie.After-finished → tie.After-line-done
+line-done-at-returns c = c .before .before .before .before .before .before
