@@ -18,10 +18,12 @@ use Rattle.printer.specs.Sound.{form-sound, sound}
 use Rattle.printer.specs.Steps.{Step, tell, tell-step}
 use Rattle.printer.proofs.Keeping.{step-counts}
 use Rattle.protocol.specs.declared.Answer.{Answer}
-use Rattle.protocol.specs.declared.Answer.the-variants.{Done, Finished, Noted, JobFull, Unsound, WrongLines, WrongSpacing}
+use Rattle.protocol.specs.declared.Answer.the-variants.{Done, Finished, Noted, JobFull, Unsound, Misfit, WrongLines, WrongSpacing}
 use Rattle.protocol.specs.declared.Fit.{Fit}
 use Rattle.protocol.specs.declared.Fit.the-variants.{Right, Wrong}
-use Rattle.protocol.specs.Answers.{refusal}
+use Rattle.protocol.specs.declared.Lent.{Lent}
+use Rattle.protocol.specs.declared.Lent.the-variants.{Page, LineStore, Staging, DownloadStore, Font}
+use Rattle.protocol.specs.Answers.{lent-number, refusal, report}
 use Rattle.protocol.specs.Protocol.{used-up}
 use Rattle.protocol.specs.Calls.{Feeding, Opening, feed-fitted, feeding, fit, heard, limit, open-fitted, opening, stopped, take-bytes, unopened}
 
@@ -167,3 +169,23 @@ module _ (e : Edition) (lines spacing : ℕ) (font : List ℕ) (m : Machine) whe
 pub shut-unsound : (e : Edition) → sound e shut ≡ false
 unfolding sound form-sound lines-allowed
 shut-unsound e = refl
+
+-- document 02 retired answer 17: no answer has its number
+lent-not-17 : (lent : Lent) → lent-number lent ≡ 17 → ⊥
+unfolding lent-number
+lent-not-17 Page q = omega arith
+lent-not-17 LineStore q = omega arith
+lent-not-17 Staging q = omega arith
+lent-not-17 DownloadStore q = omega arith
+lent-not-17 Font q = omega arith
+
+pub retired-17 : (a : Answer) → report a .number ≡ 17 → ⊥
+unfolding report
+retired-17 Done q = omega arith
+retired-17 Finished q = omega arith
+retired-17 (Noted f place) q = omega arith
+retired-17 JobFull q = omega arith
+retired-17 Unsound q = omega arith
+retired-17 (Misfit lent) q = lent-not-17 lent q
+retired-17 WrongLines q = omega arith
+retired-17 WrongSpacing q = omega arith
