@@ -11,7 +11,8 @@ use Rattle.printer.specs.Steps.{Step}
 
 module _ {e : Edition} where
   -- a test whose outcome the two arms may use
-  pub ready-test : (t : Bool) (s u : Step) → (t ≡ true → Ready e (s .machine)) → (t ≡ false → Ready e (u .machine)) → Ready e (cond t s u .machine)
+  pub ready-test : (t : Bool) (s u : Step) → (t ≡ true → Ready e (s .machine)) → (t ≡ false → Ready e (u .machine))
+      → Ready e (cond t s u .machine)
   ready-test true s u h k = h refl
   ready-test false s u h k = k refl
 

@@ -259,7 +259,8 @@ module _ {e : Edition} {m : Machine} (h : Ready e m) where
   unfolding tab-byte
   tab-byte-ready b here = ready-cond (eqb b 0) _ _ (ended-ready h) (tab-item-ready h b here)
 
-  payload-byte-ready : (l : Load) (b place : ℕ) → place < m .printer .job → (T (m .printer .head .plotting) → ⊥) → Ready e (payload-byte l b place m .machine)
+  payload-byte-ready : (l : Load) (b place : ℕ) → place < m .printer .job → (T (m .printer .head .plotting) → ⊥)
+      → Ready e (payload-byte l b place m .machine)
   unfolding payload-byte
   payload-byte-ready l b place below off =
       ready-test (ltb (l .taken) (l .count)) _ _

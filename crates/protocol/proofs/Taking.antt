@@ -83,7 +83,8 @@ module _ (font piece : List ℕ) (i : ℕ) (m : Machine) where
         (ap (more i) (heard-quiet (s .event) (s .machine) rest q) ∙ ap (λ (n : ℕ). with-taken n rest) e)
 
     pub taken-out : is-quiet (s .event) ≡ false
-        → left ≡ given-feeding (answer-to (s .event) (s .machine .printer) i) (s .machine .page) (s .machine .line) (s .machine .staging) (s .machine .store)
+        → left
+        ≡ given-feeding (answer-to (s .event) (s .machine .printer) i) (s .machine .page) (s .machine .line) (s .machine .staging) (s .machine .store)
     unfolding take-bytes
     taken-out n =
         simp (drop-cons piece i 0 h, lt-ltb _ _ room, ← is)
