@@ -15,9 +15,9 @@ use Rattle.printer.specs.Room.{Strikable}
 
 module _ {p : Printer} {page line : List ℕ} (h : Strikable p page line) where
   -- the nine rows are on the page
-  pub on-page : Room page line (p .head .row)
+  pub rows-on-page : Room page line (p .head .row)
   unfolding page-bytes lp2
-  on-page = record { rows = omega (arith, mul-le-mul-right 825 (h .row), h .page); full = h .line }
+  rows-on-page = record { rows = omega (arith, mul-le-mul-right 825 (h .row), h .page); full = h .line }
 
   pub row-bound : p .head .row .0 ≤ 1188
   row-bound = omega (arith, h .row, form-rows-most (p .form) (h .lines))

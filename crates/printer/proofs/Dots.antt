@@ -3,7 +3,7 @@ use Prim.Native.Nat.{ℕ, _+_, _*_, _≤_, _<_}
 use mathlib.Core.Bool.{Bool, true, false, cond}
 use mathlib.Core.List.{List, [], _∷_, _++_}
 use mathlib.Core.Logic.{_⊎_, inl, inr, ⊎-elim, _↔_}
-use mathlib.Core.Path.{_≡_, refl, sym, subst, _∙_}
+use mathlib.Core.Path.{_≡_, refl, sym, _∙_}
 use native.Mathlib.Nat.{mul-le-mul-right}
 use native.Mathlib.Omega.{arith}
 use lib.ListN.{length}
@@ -20,7 +20,6 @@ use Rattle.printer.specs.Bytes.{run}
 use Rattle.printer.specs.Machine.{Machine}
 use Rattle.printer.specs.Room.{Ready}
 use Rattle.printer.specs.Strikes.{PutBy, Strike, in-progress, put-down, strike-all, strikes, strikes-of}
-use Rattle.printer.proofs.Keeping.{run-counts}
 use Rattle.printer.proofs.StaysSound.{run-ready}
 
 pub strike-all-append : (e : Edition) (xs ys : List Strike) (page : List ℕ) → strike-all e (xs ++ ys) page ≡ strike-all e ys (strike-all e xs page)
@@ -82,10 +81,8 @@ module _ {e : Edition} (proper : Proper e) where
 
   -- and so does every dot that a byte puts down after any others
   pub job-on-form : {m : Machine} → Ready e m → (font before : List ℕ) (b d : ℕ) → In d (put-down e (strikes-of b (run e font before m .machine)))
-      → OnForm e (m .printer .form) d × (d < 8 * length (run e font before m .machine .page))
-  job-on-form {m} h font before b d p =
-      let on = byte-on-form (run-ready font before h) b d p in
-      (subst (λ (f : Form). OnForm e f d) (run-counts e font before m .0) (on .0), on .1)
+      → OnForm e (run e font before m .machine .printer .form) d × (d < 8 * length (run e font before m .machine .page))
+  job-on-form h font before b d p = byte-on-form (run-ready font before h) b d p
 
 -- A dot is black after some strikes exactly where it was black before them or one of them put it there.
 module _ {e : Edition} (proper : Proper e) (f : Form) (r : Row) (g : Grid) (on-row : g .0 < 8 * e .bytes) where

@@ -48,7 +48,7 @@ module _ (e : Edition) (m : Machine) where
   tab-to-page Untabbed (Tabbed n) = refl
   tab-to-page Untabbed Untabbed = refl
 
-  -- the page after a byte, by whether it is a terminator
+  -- the page after a byte, by whether it strikes the line
   abbrev left-by : Bool → List ℕ
   left-by t = cond t inked (m .page)
 

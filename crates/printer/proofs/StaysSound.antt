@@ -297,7 +297,7 @@ module _ {e : Edition} {m : Machine} where
       let place : SoundPlace (m .printer .job + 1) (begun (m .printer .pending)) = counted-place _ (begun (m .printer .pending)) (h .printer .place) in
       search
 
-  -- THE LAW: a step of a machine that is ready
+  -- THE LAW: a step of a machine that is ready leaves it ready
   pub step-ready : Ready e m → (font : List ℕ) (b : ℕ) → Ready e (step e font b m .machine)
   unfolding step
   step-ready h font b = act-ready font b (m .printer .job) (with-job (m .printer .job + 1) m) (m .printer .pending) (omega arith) (counted h)

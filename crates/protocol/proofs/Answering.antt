@@ -1,4 +1,4 @@
--- What document 01 says under its table of answers.
+-- What document 01 says under its table of answers, and that no answer has the number that document 02 retired.
 use Prim.Native.Nat.{ℕ, suc, _+_, _≤_, _<_}
 use mathlib.Core.Bool.{Bool, true, false, cond, true≢false}
 use mathlib.Core.List.{List, [], _∷_}
@@ -10,6 +10,8 @@ use lib.ListN.{length}
 use Rattle.sheet.specs.declared.Form.{Form}
 use Rattle.sheet.specs.Edition.{Edition}
 use Rattle.sheet.specs.Form.{lines-allowed, spacing-allowed}
+use Rattle.printer.specs.declared.Closing.{Closing}
+use Rattle.printer.specs.declared.Closing.the-variants as closing
 use Rattle.printer.specs.declared.Event.{Event}
 use Rattle.printer.specs.declared.Event.the-variants as event
 use Rattle.printer.specs.Bytes.{step}
@@ -23,7 +25,7 @@ use Rattle.protocol.specs.declared.Fit.{Fit}
 use Rattle.protocol.specs.declared.Fit.the-variants.{Right, Wrong}
 use Rattle.protocol.specs.declared.Lent.{Lent}
 use Rattle.protocol.specs.declared.Lent.the-variants.{Page, LineStore, Staging, DownloadStore, Font}
-use Rattle.protocol.specs.Answers.{lent-number, refusal, report}
+use Rattle.protocol.specs.Answers.{close-report, lent-number, refusal, report}
 use Rattle.protocol.specs.Protocol.{used-up}
 use Rattle.protocol.specs.Calls.{Feeding, Opening, feed-fitted, feeding, fit, heard, limit, open-fitted, opening, stopped, take-bytes, unopened}
 
@@ -170,7 +172,6 @@ pub shut-unsound : (e : Edition) → sound e shut ≡ false
 unfolding sound form-sound lines-allowed
 shut-unsound e = refl
 
--- document 02 retired answer 17: no answer has its number
 lent-not-17 : (lent : Lent) → lent-number lent ≡ 17 → ⊥
 unfolding lent-number
 lent-not-17 Page q = omega arith
@@ -179,6 +180,7 @@ lent-not-17 Staging q = omega arith
 lent-not-17 DownloadStore q = omega arith
 lent-not-17 Font q = omega arith
 
+-- document 02 retired 17: no opening and no feeding answers it
 pub retired-17 : (a : Answer) → report a .number ≡ 17 → ⊥
 unfolding report
 retired-17 Done q = omega arith
@@ -189,3 +191,11 @@ retired-17 Unsound q = omega arith
 retired-17 (Misfit lent) q = lent-not-17 lent q
 retired-17 WrongLines q = omega arith
 retired-17 WrongSpacing q = omega arith
+
+-- and no closing
+pub retired-17-closing : (c : Closing) → close-report c .number ≡ 17 → ⊥
+unfolding close-report
+retired-17-closing closing.Unsound q = omega arith
+retired-17-closing (closing.Unfinished place) q = omega arith
+retired-17-closing closing.Unprinted q = omega arith
+retired-17-closing closing.Clean q = omega arith

@@ -1,4 +1,5 @@
--- A dot is black after a feeding exactly where it was black in the page lent or a line struck in that feeding put it there.
+-- A dot is black after a feeding exactly where it was black in the page lent or a line struck in that feeding put it there, and what is put there lies
+-- on the form.
 use Prim.Native.Nat.{ℕ, _*_, _<_}
 use mathlib.Core.Bool.{Bool, true, false, cond}
 use mathlib.Core.List.{List, [], _∷_, _++_}
@@ -38,7 +39,7 @@ use Rattle.protocol.specs.Strikes.{feeding-strikes, fitted-strikes, if-q
 use Rattle.protocol.proofs.Accepted.{right-fitting}
 
 module _ (e : Edition) (font : List ℕ) where
-  -- the page that a call leaves, and its strikes on the form
+  -- the page that a call leaves, and that its strikes fit the form
   record Inked (f : Form) (page : List ℕ) (ss : List Strike) (left : Feeding) : Type 0 where
     page-after : left .machine .page ≡ strike-all e ss page
     fitting : AllFitting e f ss

@@ -1,4 +1,4 @@
-//! The witness: an independent reading of document 01.
+//! The witness: an independent reading of documents 01 and 02.
 //!
 //! `reference replay` reads scripts from standard input and prints what each
 //! one gives. `reference generate SEED N` writes N scripts to standard output.

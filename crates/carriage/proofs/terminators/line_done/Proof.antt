@@ -2,14 +2,14 @@
 mod Places
 use borrow.Author.Needs.{needs}
 use Rattle.printer.specs.Given.{machine}
-use Rattle.carriage.proofs.Rooms.{on-page}
+use Rattle.carriage.proofs.Rooms.{rows-on-page}
 use Rattle.carriage.proofs.Struck.{done}
 use Rattle.carriage.proofs.terminators.line_done.Statement.{statement}
 use Rattle.carriage.proofs.terminators.line_done.Tie as tie
 use Places.*
 
 strike-requires : tie.Need-strike-requires
-strike-requires c κs = on-page (start-at-strike-requires c .pre)
+strike-requires c κs = rows-on-page (start-at-strike-requires c .pre)
 
 returns : tie.Need-returns
 returns c staging store =

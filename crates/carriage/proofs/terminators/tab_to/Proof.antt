@@ -1,4 +1,4 @@
--- `terminators::tab_to`: each arm strikes at the row where that tab leads, as the definition does.
+-- `terminators::tab_to`: each arm strikes the line and goes where that tab leads, as the definition does.
 mod Places
 use borrow.Author.Needs.{needs}
 use mathlib.Core.Path.{subst, _∙_}
