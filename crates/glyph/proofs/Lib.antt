@@ -1,7 +1,8 @@
 -- What is true of glyphs: which are well formed, what entering a character leaves, and LP2's "B" as an example.
 pub mod Lengths
-pub mod Asking
+pub mod Each
 pub mod Turns
+pub mod Neighbours
 pub mod WellFormed
 pub mod Cells
 pub mod CapitalB

@@ -1,6 +1,6 @@
 -- Every byte keeps a machine ready, its state sound and its memory of its lengths.
 use Prim.Native.Nat.{ℕ, zero-le, _+_, _-_, _*_, _%_, _≤_, _<_}
-use mathlib.Core.Bool.{Bool, true, false, not, and-eq-true-iff, true≢false}
+use mathlib.Core.Bool.{Bool, true, false, not, _||_, and-eq-true-iff, true≢false}
 use mathlib.Core.List.{List, [], _∷_}
 use mathlib.Core.Path.{_≡_, refl, sym, subst, _∙_}
 use native.Mathlib.Omega.{arith}
@@ -20,7 +20,6 @@ use Rattle.sheet.proofs.Struck.{length-struck}
 use Rattle.sheet.proofs.Units.{length-blank-page, length-empty-line, line-fits, line-inside, top-fits}
 use Rattle.glyph.specs.Entering.{or-in}
 use Rattle.glyph.proofs.Lengths.{length-enter, length-or-in}
-use Rattle.glyph.proofs.WellFormed.{or-parts}
 use Rattle.printer.specs.declared.Begun.{Begun}
 use Rattle.printer.specs.declared.Begun.the-variants.{Nowhere, At}
 use Rattle.printer.specs.declared.Event.{Event}
@@ -51,6 +50,11 @@ use Rattle.printer.specs.Facts.{Sound, SoundHead, SoundLoad, SoundPlace,
 
 lt-add-one : (a b : ℕ) → a < b → a + 1 ≤ b
 lt-add-one a b h = omega arith
+
+-- two tests that fail together fail each
+or-parts : (a b : Bool) → (a || b) ≡ false → (a ≡ false) × (b ≡ false)
+or-parts true b h = absurd (true≢false h)
+or-parts false b h = (refl, h)
 
 -- a download that is in range lies within the store
 pub in-range : (count address : ℕ) → out-of-range count address ≡ false → (2048 ≤ address) × (address + count ≤ 4096)
