@@ -1,7 +1,7 @@
 /*
  * clocktoad: a reader of the bytes that a host sends to a DASHER LP2 printer.
  *
- * It follows document 01, base edition: no request of document 02 is in it.
+ * It follows document 01, base edition, and the requests of document 02 that docs/changes has notes on.
  * docs/CALLING.md shows the protocol and a whole program.
  *
  * The library keeps no memory of its own: all it reads or writes is lent by the
