@@ -1,6 +1,6 @@
 /*
  * A twin of the library in plain C, without proofs, to measure it against.
- * Same rules (document 01, base edition), same lent memory, same answers and report.
+ * Same rules (those that include/clocktoad.h names), same lent memory, same answers and report.
  * The state is a struct, and the report is always four words, so numbers 21 and 22 don't arise.
  */
 #ifndef TWIN_H

@@ -12,7 +12,7 @@ module _ (test : ℕ → Bool) where
   abbrev pub Passed : ℕ → Type 0
   Passed k = (j : ℕ) → j < k → test j ≡ true
 
-  -- tests that pass together pass each
+  -- where tests pass together, each passes
   each-passes : (k m : ℕ) → each k m test ≡ true → (j : ℕ) → k ≤ j → j < k + m → test j ≡ true
   unfolding each
   each-passes k zero h j from below = absurd (omega arith)
@@ -20,7 +20,7 @@ module _ (test : ℕ → Bool) where
       let parts = and-eq-true-iff (test k) (each (suc k) m test) .0 h in
       ⊎-elim (λ e. ap test (sym e) ∙ parts .0) (λ past. each-passes (suc k) m (parts .1) j past (omega arith)) (eq-or-lt-of-le from)
 
-  -- tests of which each passes pass together
+  -- where each passes, they pass together
   passes-each : (k m : ℕ) → ((j : ℕ) → k ≤ j → j < k + m → test j ≡ true) → each k m test ≡ true
   unfolding each
   passes-each k zero h = refl
@@ -32,7 +32,7 @@ module _ (test : ℕ → Bool) where
   all-passed n =
       (λ h j below. each-passes 0 n h j (omega arith) (omega arith), λ passed. passes-each 0 n (λ j from below. passed j (omega arith)))
 
-  -- where each of the first n is tried and passes, they pass together
+  -- where the first k pass, and n is at most k, the first n pass together
   pub none-fails : {n k : ℕ} → n ≤ k → Passed k → true ≡ each 0 n test
   none-fails {n} end passed = sym (all-passed n .1 (λ j below. passed j (omega arith)))
 

@@ -1,4 +1,4 @@
--- Neighbouring columns: that as whole numbers they have no bit in common is that no wire is set in both.
+-- As whole numbers, columns have no bit in common exactly where no wire is set in both: a bit of their `and` is the `and` of their bits.
 use Prim.Native.Nat.{ℕ, zero, suc, _+_, _/_, _%_, _^_, _<_}
 use mathlib.Core.Logic.{_↔_}
 use mathlib.Core.Path.{_≡_, refl, ap, ap₂, _∙_}
@@ -39,7 +39,7 @@ set-in-both a b k none p q =
     let nil : bit (bitAnd a b) k ≡ 0 = ap (λ (n : ℕ). bit n k) none ∙ ap (λ (n : ℕ). n % 2) (zero-div (2 ^ k)) in
     omega arith
 
--- two columns have no bit in common exactly where no wire 1 to 9, bits 8 to 0, is set in both
+-- two columns below 512 have no bit in common exactly where no wire 1 to 9, bits 8 to 0, is set in both
 pub no-wire-shared : (a b : ℕ) → a < 512 → b < 512 → (bitAnd a b ≡ 0) ↔ ((w : ℕ) → w < 9 → bit a w ≡ 1 → bit b w ≡ 1 → ⊥)
 no-wire-shared a b la lb = (
   λ none w lt. set-in-both a b w none,

@@ -1,4 +1,4 @@
--- `words::all_small`: the words before the loop's have passed; one that doesn't makes the whole false, and past the last all have.
+-- `words::words_small`: the words before the one at hand have passed; one that fails makes the whole false, and past the last all have passed.
 use Prim.Native.Nat.{ℕ, _-_}
 use mathlib.Core.Path.{sym, ap, _∙_}
 use native.Mathlib.Omega.{arith}
@@ -7,8 +7,8 @@ use borrow.Author.Tests.{le-leb, lt-leb}
 use lib.Dec.{leb}
 use Rattle.glyph.specs.Words.{small}
 use Rattle.glyph.proofs.Each.{Passed, none-fails, one-fails}
-use Rattle.glyph.proofs.words.all_small.Statement.{statement}
-use Rattle.glyph.proofs.words.all_small.Tie as tie
+use Rattle.glyph.proofs.words.words_small.Statement.{statement}
+use Rattle.glyph.proofs.words.words_small.Tie as tie
 
 abbrev Inv-loop : tie.InvT-loop
 Inv-loop glyphs n k₀ k = Passed (small glyphs n) k
@@ -26,8 +26,8 @@ loop-again c =
     below-more _ _ (c .before .before .before .loop .inv)
     (ap (λ (w : ℕ). leb w 511) (sym (c .before .word .ensures)) ∙ le-leb (c .before .word .result) 511 (omega arith))
 
-pub all-small-spec : {M : Type 1} → statement M
-all-small-spec =
+pub words-small-spec : {M : Type 1} → statement M
+words-small-spec =
     tie.close
     (tie.spec Inv-loop μ-loop (λ c. below-none _) (λ c κs. omega arith) returns (λ c. omega arith) (λ c. omega arith) loop-again
     (λ c. none-fails _ (omega arith) (c .before .loop .inv)))

@@ -1,5 +1,5 @@
--- The places that the proof of `words::all_apart` names. Made by tools/places; nobody has to read it.
-use Rattle.glyph.proofs.words.all_apart.Tie as tie
+-- The places that the proof of `words::columns_apart` names. Made by tools/places; nobody has to read it.
+use Rattle.glyph.proofs.words.columns_apart.Tie as tie
 
 module _ {Inv-loop : tie.InvT-loop} {μ-loop : tie.MeasureT-loop} where
   abbrev pub loop-at-loop-again : tie.Else1 Inv-loop μ-loop → tie.At-loop Inv-loop μ-loop

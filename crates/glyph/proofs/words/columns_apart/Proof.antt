@@ -1,4 +1,4 @@
--- `words::all_apart`: the pairs before the loop's have passed; one that doesn't makes the whole false, and past the last all have.
+-- `words::columns_apart`: the pairs before the one at hand have passed; one that fails makes the whole false, and past the last all have passed.
 mod Places
 use Prim.Native.Nat.{ℕ, _-_}
 use mathlib.Core.Path.{_≡_, sym, ap₂, _∙_}
@@ -9,8 +9,8 @@ use lib.Bits.{bitAnd}
 use lib.Dec.{eqb}
 use Rattle.glyph.specs.Words.{apart}
 use Rattle.glyph.proofs.Each.{Passed, none-fails, one-fails}
-use Rattle.glyph.proofs.words.all_apart.Statement.{statement}
-use Rattle.glyph.proofs.words.all_apart.Tie as tie
+use Rattle.glyph.proofs.words.columns_apart.Statement.{statement}
+use Rattle.glyph.proofs.words.columns_apart.Tie as tie
 use Places.*
 
 abbrev Inv-loop : tie.InvT-loop
@@ -19,7 +19,7 @@ Inv-loop glyphs n k₀ k = Passed (apart glyphs n) k
 abbrev μ-loop : tie.MeasureT-loop
 μ-loop glyphs n k₀ k = 6 - k
 
--- the pair at which the loop stands is judged by the two columns that were read
+-- the pair at hand is judged by the two columns that were read
 pair : (c : tie.After-column2 Inv-loop μ-loop)
     → let a = start-at-column2 c .args in
     apart (a .glyphs .now) (a .n) (c .before .before .before .loop .k) ≡ eqb (bitAnd (c .before .column .result) (c .column2 .result)) 0
@@ -32,8 +32,8 @@ returns c = one-fails _ (omega arith) (pair (c .before) ∙ ne-eqb _ _ (c .if1 .
 loop-again : tie.Need-loop-again Inv-loop μ-loop
 loop-again c = below-more _ _ (loop-at-loop-again c .loop .inv) (pair (c .before) ∙ eq-eqb _ _ (c .if1 .left))
 
-pub all-apart-spec : {M : Type 1} → statement M
-all-apart-spec =
+pub columns-apart-spec : {M : Type 1} → statement M
+columns-apart-spec =
     tie.close
     (tie.spec Inv-loop μ-loop (λ c. below-none _) (λ c κs. omega arith) (λ c. omega arith) (λ c κs. omega arith) returns (λ c. omega arith)
     (λ c. omega arith) loop-again (λ c. none-fails _ (omega arith) (c .before .loop .inv)))
