@@ -19,18 +19,22 @@ Inv-loop glyphs n k₀ k = Passed (apart glyphs n) k
 abbrev μ-loop : tie.MeasureT-loop
 μ-loop glyphs n k₀ k = 6 - k
 
--- the pair at hand is judged by the two columns that were read
+-- what the two columns that were read have in common
+abbrev common : tie.After-column2 Inv-loop μ-loop → ℕ
+common c = bitAnd (c .before .column .result) (c .column2 .result)
+
+-- the pair at hand is judged by it
 pair : (c : tie.After-column2 Inv-loop μ-loop)
     → let a = start-at-column2 c .args in
-    apart (a .glyphs .now) (a .n) (c .before .before .before .loop .k) ≡ eqb (bitAnd (c .before .column .result) (c .column2 .result)) 0
+    apart (a .glyphs .now) (a .n) (c .before .before .before .loop .k) ≡ eqb (common c) 0
 unfolding apart
 pair c = sym (ap₂ (λ (left right : ℕ). eqb (bitAnd left right) 0) (c .before .column .ensures) (c .column2 .ensures))
 
 returns : tie.Need-returns Inv-loop μ-loop
-returns c = one-fails _ (omega arith) (pair (c .before) ∙ ne-eqb _ _ (c .if1 .taken))
+returns c = one-fails _ (omega arith) (pair (c .before) ∙ ne-eqb (common (c .before)) 0 (λ none. omega arith))
 
 loop-again : tie.Need-loop-again Inv-loop μ-loop
-loop-again c = below-more _ _ (loop-at-loop-again c .loop .inv) (pair (c .before) ∙ eq-eqb _ _ (c .if1 .left))
+loop-again c = below-more _ _ (loop-at-loop-again c .loop .inv) (pair (c .before) ∙ eq-eqb (common (c .before)) 0 (omega arith))
 
 pub columns-apart-spec : {M : Type 1} → statement M
 columns-apart-spec =
