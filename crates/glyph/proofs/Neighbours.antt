@@ -7,7 +7,7 @@ use native.Mathlib.Omega.{arith}
 use lib.Bits.{bitAnd, and-lt, and-mod, and-shr}
 use lib.Pow.{shr-shr}
 use Rattle.sheet.specs.Dots.{bit}
-use Rattle.sheet.proofs.Blackening.{bit-lt}
+use Rattle.sheet.proofs.Bits.{bit-lt}
 
 -- a bit of an `and` is the `and` of the two bits
 bit-and : (a b k : ℕ) → bit (bitAnd a b) k ≡ bitAnd (bit a k) (bit b k)

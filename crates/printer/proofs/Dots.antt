@@ -10,12 +10,13 @@ use lib.ListN.{length}
 use Rattle.sheet.specs.declared.Form.{Form}
 use Rattle.sheet.specs.declared.Grid.{Grid}
 use Rattle.sheet.specs.declared.Row.{Row}
-use Rattle.sheet.specs.Dots.{Black, OnForm, blacken-all, dot-at, marks, struck}
+use Rattle.sheet.specs.Dots.{Black, In, OnForm, blacken-all, dot-at, marks, struck}
 use Rattle.sheet.specs.Edition.{Edition}
 use Rattle.sheet.specs.Form.{form-rows, page-bytes}
 use Rattle.sheet.proofs.Editions.{Proper}
-use Rattle.sheet.proofs.Blackening.{In, blacken-all-append, in-append}
-use Rattle.sheet.proofs.Struck.{length-struck, marks-on-form, on-page, struck-black, struck-stays-black}
+use Rattle.sheet.proofs.Blackening.{blacken-all-append, in-append}
+use Rattle.sheet.proofs.Marks.{marks-on-form, on-page}
+use Rattle.sheet.proofs.Struck.{length-struck, struck-black, struck-stays-black}
 use Rattle.printer.specs.Bytes.{run}
 use Rattle.printer.specs.Machine.{Machine}
 use Rattle.printer.specs.Room.{Ready}
@@ -33,26 +34,22 @@ unfolding strike-all
 strikes-stay-black e [] page d h = h
 strikes-stay-black e (s ∷ ss) page d h = strikes-stay-black e ss _ d (struck-stays-black e page (s .line) (s .row) (s .pitch) d h)
 
--- a strike that fits a form: its line fills the store, and its nine rows are rows of the form
-pub record Fitting (e : Edition) (f : Form) (s : Strike) : Type 0 where
-  pub full : length (s .line) ≡ e .columns
-  pub inside : s .row .0 + 9 ≤ form-rows f
+-- strikes that fit a form: the nine rows of each are rows of the form
+abbrev pub AllFitting : Form → List Strike → Type 0
+AllFitting f [] = Unit {0}
+AllFitting f (s ∷ ss) = (s .row .0 + 9 ≤ form-rows f) × AllFitting f ss
 
-abbrev pub AllFitting : Edition → Form → List Strike → Type 0
-AllFitting e f [] = Unit {0}
-AllFitting e f (s ∷ ss) = Fitting e f s × AllFitting e f ss
-
-pub fitting-append : (e : Edition) (f : Form) (xs ys : List Strike) → AllFitting e f xs → AllFitting e f ys → AllFitting e f (xs ++ ys)
-fitting-append e f [] ys h k = k
-fitting-append e f (x ∷ xs) ys h k = (h .0, fitting-append e f xs ys (h .1) k)
+pub fitting-append : (f : Form) (xs ys : List Strike) → AllFitting f xs → AllFitting f ys → AllFitting f (xs ++ ys)
+fitting-append f [] ys h k = k
+fitting-append f (x ∷ xs) ys h k = (h .0, fitting-append f xs ys (h .1) k)
 
 -- the line that a byte strikes fits the form
-pub strikes-fitting : {e : Edition} {m : Machine} → Ready e m → (b : ℕ) → AllFitting e (m .printer .form) (strikes-of b m)
+pub strikes-fitting : {e : Edition} {m : Machine} → Ready e m → (b : ℕ) → AllFitting (m .printer .form) (strikes-of b m)
 unfolding strikes-of
 strikes-fitting {e} {m} h b = go (strikes b m)
   where
-    go : (t : Bool) → AllFitting e (m .printer .form) (cond t (in-progress m ∷ []) [])
-    go true = (record { full = h .memory .line; inside = h .printer .head .row }, tt)
+    go : (t : Bool) → AllFitting (m .printer .form) (cond t (in-progress m ∷ []) [])
+    go true = (h .printer .head .row, tt)
     go false = tt
 
 -- strikes blacken the dots that they put down, and no other
@@ -65,11 +62,11 @@ strikes-put-down e (s ∷ ss) page =
 
 module _ {e : Edition} (proper : Proper e) where
   -- the dots that fitting strikes put down lie on the form
-  pub fitting-on-form : (f : Form) (ss : List Strike) → AllFitting e f ss → (d : ℕ) → In d (put-down e ss) → OnForm e f d
+  pub fitting-on-form : (f : Form) (ss : List Strike) → AllFitting f ss → (d : ℕ) → In d (put-down e ss) → OnForm e f d
   unfolding put-down
   fitting-on-form f [] h d p = absurd p
   fitting-on-form f (s ∷ ss) h d p =
-      ⊎-elim (marks-on-form proper (s .line) (h .0 .full) (s .row) (s .pitch) f (h .0 .inside) d) (fitting-on-form f ss (h .1) d)
+      ⊎-elim (marks-on-form proper (s .line) (s .row) (s .pitch) f (h .0) d) (fitting-on-form f ss (h .1) d)
       (in-append d (marks e (s .line) (s .row) (s .pitch)) (put-down e ss) p)
 
   -- THE LAW: every dot that a byte puts down in a machine that is ready lies on a row of the form, within the bits of the page
@@ -86,13 +83,13 @@ module _ {e : Edition} (proper : Proper e) where
 
 -- A dot is black after some strikes exactly where it was black before them or one of them put it there.
 module _ {e : Edition} (proper : Proper e) (f : Form) (r : Row) (g : Grid) (on-row : g .0 < 8 * e .bytes) where
-  pub strikes-black : (ss : List Strike) (page : List ℕ) → AllFitting e f ss → length page ≡ page-bytes e f
+  pub strikes-black : (ss : List Strike) (page : List ℕ) → AllFitting f ss → length page ≡ page-bytes e f
       → Black (strike-all e ss page) (dot-at e r g) ↔ (Black page (dot-at e r g) ⊎ PutBy e ss r g)
   unfolding strike-all page-bytes
   strikes-black [] page h l = (λ p. inl p, λ p. ⊎-elim (λ b. b) (λ q. absurd q) p)
   strikes-black (s ∷ ss) page h l =
-      let room : (s .row .0 + 9) * e .bytes ≤ length page = omega (arith, mul-le-mul-right (e .bytes) (h .0 .inside), l) in
-      let one = struck-black proper (s .line) (h .0 .full) (s .row) (s .pitch) page room r g on-row in
+      let room : (s .row .0 + 9) * e .bytes ≤ length page = omega (arith, mul-le-mul-right (e .bytes) (h .0), l) in
+      let one = struck-black proper page (s .line) (s .row) (s .pitch) room r g on-row in
       let rest = strikes-black ss (struck e page (s .line) (s .row) (s .pitch)) (h .1) (length-struck e page (s .line) (s .row) (s .pitch) ∙ l) in (
         λ p. ⊎-elim (λ b. ⊎-elim (λ q. inl q) (λ q. inr (inl q)) (one .0 b)) (λ q. inr (inr q)) (rest .0 p),
         λ p. rest .1 (⊎-elim (λ b. inl (one .1 (inl b))) (λ q. ⊎-elim (λ t. inl (one .1 (inr t))) (λ t. inr t) q) p),

@@ -11,12 +11,11 @@ use lib.ListN.{length}
 use Rattle.sheet.specs.declared.Form.{Form}
 use Rattle.sheet.specs.declared.Grid.{Grid}
 use Rattle.sheet.specs.declared.Row.{Row}
-use Rattle.sheet.specs.Dots.{Black, OnForm, dot-at}
+use Rattle.sheet.specs.Dots.{Black, In, OnForm, dot-at}
 use Rattle.sheet.specs.Edition.{Edition}
 use Rattle.sheet.specs.Form.{page-bytes}
-use Rattle.sheet.proofs.Blackening.{In}
 use Rattle.sheet.proofs.Editions.{Proper}
-use Rattle.sheet.proofs.Struck.{on-page}
+use Rattle.sheet.proofs.Marks.{on-page}
 use Rattle.printer.specs.declared.Event.{Event}
 use Rattle.printer.specs.declared.Event.the-variants.{Quiet, Finished, Noted}
 use Rattle.printer.specs.Bytes.{step}
@@ -42,25 +41,25 @@ module _ (e : Edition) (font : List ℕ) where
   -- the page that a call leaves, and that its strikes fit the form
   record Inked (f : Form) (page : List ℕ) (ss : List Strike) (left : Feeding) : Type 0 where
     page-after : left .machine .page ≡ strike-all e ss page
-    fitting : AllFitting e f ss
+    fitting : AllFitting f ss
 
   unstruck : (f : Form) (a : Answer) (m : Machine) → Inked f (m .page) [] (stopped a m)
   unfolding strike-all
   unstruck f a m = record { page-after = refl; fitting = tt }
 
   heard-inked : (f : Form) (page : List ℕ) (ss rest : List Strike) (v : Event) (n : Machine) (after : Feeding)
-      → AllFitting e f ss → n .page ≡ strike-all e ss page → Inked f (n .page) rest after
+      → AllFitting f ss → n .page ≡ strike-all e ss page → Inked f (n .page) rest after
       → Inked f page (ss ++ if-quiet v rest) (heard v n after)
   unfolding heard if-quiet strike-all
   heard-inked f page ss rest Quiet n after on q k =
       record {
         page-after = k .page-after ∙ ap (strike-all e rest) q ∙ sym (strike-all-append e ss rest page);
-        fitting = fitting-append e f ss rest on (k .fitting);
+        fitting = fitting-append f ss rest on (k .fitting);
       }
   heard-inked f page ss rest Finished n after on q k =
-      record { page-after = q ∙ sym (strike-all-append e ss [] page); fitting = fitting-append e f ss [] on tt }
+      record { page-after = q ∙ sym (strike-all-append e ss [] page); fitting = fitting-append f ss [] on tt }
   heard-inked f page ss rest (Noted g place) n after on q k =
-      record { page-after = q ∙ sym (strike-all-append e ss [] page); fitting = fitting-append e f ss [] on tt }
+      record { page-after = q ∙ sym (strike-all-append e ss [] page); fitting = fitting-append f ss [] on tt }
 
   inked-if : (f : Form) (m : Machine) (ss : List Strike) (left : Feeding) (t : Bool) → Inked f (m .page) ss left
       → Inked f (m .page) (cond t ss []) (cond t left (stopped JobFull m))
@@ -75,7 +74,7 @@ module _ (e : Edition) (font : List ℕ) where
       let s : Step = step e font b m in
       inked-if f m _ _ (ltb (m .printer .job) limit)
       (heard-inked f (m .page) (strikes-of b m) _ (s .event) (s .machine) _
-      (subst (λ (g : Form). AllFitting e g (strikes-of b m)) q (strikes-fitting h b)) (step-page e font b m)
+      (subst (λ (g : Form). AllFitting g (strikes-of b m)) q (strikes-fitting h b)) (step-page e font b m)
       (taken-inked bs (s .machine) f (step-counts e font b m .0 ∙ q) (step-ready h font b)))
 
   fitted-inked : (piece : List ℕ) (m : Machine) (t : Fit) → fit e (m .printer .form) font m ≡ t → sound e (m .printer) ≡ true
@@ -126,7 +125,7 @@ unfolding strike-all
 feeding-black {e} proper font piece m r g on-row =
     rw (feeding-page e font piece m) (go (feeding-strikes e font piece m) (feeding-inked e font piece m .fitting) (feeding-size e font piece m))
   where
-    go : (ss : List Strike) → AllFitting e (m .printer .form) ss → Size e font piece m ss
+    go : (ss : List Strike) → AllFitting (m .printer .form) ss → Size e font piece m ss
         → Black (strike-all e ss (m .page)) (dot-at e r g) ↔ (Black (m .page) (dot-at e r g) ⊎ PutBy e ss r g)
     go [] on q = (λ p. inl p, λ p. ⊎-elim (λ b. b) (λ t. absurd t) p)
     go (s ∷ ss) on (inl q) = let z : _≡_ {A = ℕ} 0 1 = cc in absurd (omega arith)

@@ -18,8 +18,11 @@ use Rattle.sheet.specs.Edition.{lp2}
 use Rattle.sheet.specs.Form.{lower}
 use Rattle.sheet.specs.Dots.{bit, blacken-all, mark-if, dot-at, wire-marks, column-marks, line-marks}
 use Rattle.striking.specs.Groups.{any-wires, fields, ones, wire-dots, join-byte, join}
-use Rattle.sheet.proofs.Blackening.{bit-lt, blacken-all-append}
-use Rattle.striking.proofs.Joining.{blacken-all-swap, mark-first, bit-marks, bit-marks-moved, bit-marks-last, joined}
+use Rattle.sheet.proofs.AnyOrder.{blacken-all-swap, mark-first}
+use Rattle.sheet.proofs.Bits.{bit-lt}
+use Rattle.sheet.proofs.Blackening.{blacken-all-append}
+use Rattle.sheet.proofs.Marks.{no-wires}
+use Rattle.striking.proofs.Joining.{bit-marks, bit-marks-moved, bit-marks-last, joined}
 
 -- a bit below bit s does not depend on the bits from s on
 low-bit : (n k j : ℕ) → bit n k ≡ bit (n % 2 ^ (suc j + k)) k
@@ -110,11 +113,11 @@ lone-marks z j d (x ∷ xs) n f =
     ∙ bit-marks-last d n f z b rest (bit-lt x j)
 
 -- joining the bytes of a wire's dots strikes that wire of eight columns
-pub wire-joined : (page columns : List ℕ) (at z skip k w : ℕ) → length columns ≡ 8 → at + suc z ≤ length page → k < suc z
+pub wire-joined : (page columns : List ℕ) (at z skip k w : ℕ) → length columns ≡ 8 → k < suc z
     → w ≡ fields (2 ^ suc z) skip columns 0
     → join page at (suc z) (wire-dots (2 ^ suc z) w k) ≡ blacken-all page (wire-row (skip + k) columns (at * 8) (suc z))
 unfolding wire-dots bit-marks ones
-wire-joined page columns at z skip k w eight room h e =
+wire-joined page columns at z skip k w eight h e =
     let base : ℕ = 2 ^ suc z in
     let top : base / 2 ≡ 2 ^ z = omega (arith, pow-suc 2 z) in
     let start : bitAnd (0 / 2 ^ k) (ones base 0) ≡ 0 = and-zero-r (0 / 2 ^ k) in
@@ -124,7 +127,7 @@ wire-joined page columns at z skip k w eight room h e =
     let count : suc z * 8 ≡ length columns * suc z + 0 =
     mul-comm (suc z) 8 ∙ ap (λ (m : ℕ). m * suc z) (sym eight) ∙ sym (add-zero (length columns * suc z)) in
     ap₂ (λ (v m : ℕ). join page at (suc z) (v * m)) alone top
-    ∙ joined page at (suc z) (lone base (skip + k) columns 0 * 2 ^ z) room
+    ∙ joined page at (suc z) (lone base (skip + k) columns 0 * 2 ^ z)
     ∙ ap (λ (m : ℕ). blacken-all page (bit-marks (at * 8) m (lone base (skip + k) columns 0 * 2 ^ z) [])) count
     ∙ ap (blacken-all page) (lone-marks z (skip + k) (at * 8) columns 0 0)
     ∙ ap (λ (m : ℕ). blacken-all page (wire-row (skip + k) columns m (suc z))) (add-zero (at * 8))
@@ -213,11 +216,6 @@ or-none a b e =
     let sum : bitOr a b + bitAnd a b ≡ a + b = or-add-and a b in
     (omega (arith, and-le-r a b), omega (arith, and-le-l a b))
 
--- a column with no wire set has no dots
-no-dots : (r : Row) (g : Grid) → column-marks lp2 0 r g ≡ []
-unfolding column-marks wire-marks mark-if bit
-no-dots r g = refl
-
 -- columns with no wire set may be passed over
 pub none-set : (columns page : List ℕ) (pitch : Pitch) (r : Row) (c : ℕ) → any-wires columns ≡ 0
     → page ≡ blacken-all page (line-marks lp2 columns pitch r c)
@@ -228,7 +226,7 @@ none-set (column ∷ columns) page pitch r c q =
     let g : Grid = lp2 .grid pitch c in
     let more : List ℕ = line-marks lp2 columns pitch r (c + 1) in
     none-set columns page pitch r (c + 1) (parts .1)
-    ∙ ap (λ (dots : List ℕ). blacken-all page (dots ++ more)) (sym (ap (λ (x : ℕ). column-marks lp2 x r g) (parts .0) ∙ no-dots r g))
+    ∙ ap (λ (dots : List ℕ). blacken-all page (dots ++ more)) (sym (ap (λ (x : ℕ). column-marks lp2 x r g) (parts .0) ∙ no-wires lp2 r g))
 
 module _ (line : List ℕ) (c : ℕ) (inside : c + 8 ≤ length line) where
   -- eight columns are eight

@@ -1,5 +1,5 @@
 -- The nine wires of eight columns, joined to a page one after the other, each a row below the one before.
-use Prim.Native.Nat.{ℕ, zero, suc, _+_, _-_, _*_, _/_, _%_, _^_, _≤_, _<_}
+use Prim.Native.Nat.{ℕ, zero, suc, _+_, _-_, _*_, _/_, _%_, _^_, _<_}
 use mathlib.Core.Path.{_≡_, refl, sym, ap, ap₂, _∙_}
 use mathlib.Core.List.{List, [], _∷_}
 use native.Mathlib.Omega.{arith}
@@ -70,7 +70,7 @@ held-at z columns i (f ∷ fs) (suc k) h l =
     let count : i + 1 + k ≡ i + suc k = omega arith in
     held-at z columns (i + 1) fs k (h .1) (omega arith) ∙ ap (λ (n : ℕ). fields (2 ^ suc z) (n * suc z) columns 0) count
 
-module _ (z : ℕ) (held columns page : List ℕ) (at : ℕ) (eight : length columns ≡ 8) (fits : at + 6600 + suc z ≤ length page)
+module _ (z : ℕ) (held columns page : List ℕ) (at : ℕ) (eight : length columns ≡ 8)
     (many : 8 < length held * suc z) (holds : Held z columns 0 held) where
   -- the wire that is next strikes its row
   next-struck : (n m : ℕ) → n + m ≡ 8
@@ -79,13 +79,12 @@ module _ (z : ℕ) (held columns page : List ℕ) (at : ℕ) (eight : length col
   next-struck n m e =
       let before : List ℕ = wired z held at page n in
       let left : 8 - n ≡ m = omega arith in
-      let room : at + n * 825 + suc z ≤ length before = omega (arith, length-wired z held at page n) in
       let which : ℕ = (8 - n) / suc z in
       let inside : which < length held = div-lt-iff-lt-mul {k = suc z} (omega arith) .1 (omega arith) in
       let holds-it : getD held which 0 ≡ fields (2 ^ suc z) (which * suc z) columns 0 =
       held-at z columns 0 held which holds inside ∙ ap (λ (k : ℕ). fields (2 ^ suc z) (k * suc z) columns 0) (zero-add which) in
       ap (λ (i : ℕ). join before i (suc z) (wire-of z held (8 - n))) (row-is at n)
-      ∙ wire-joined before columns (at + n * 825) z (which * suc z) ((8 - n) % suc z) (getD held which 0) eight room (mod-lt (8 - n) (omega arith)) holds-it
+      ∙ wire-joined before columns (at + n * 825) z (which * suc z) ((8 - n) % suc z) (getD held which 0) eight (mod-lt (8 - n) (omega arith)) holds-it
       ∙ ap (λ (j : ℕ). blacken-all before (wire-row j columns ((at + n * 825) * 8) (suc z))) (div-add-mod' (8 - n) (suc z) ∙ left)
 
   -- once n wires are struck, the others make of the page what all nine make of it at entry
@@ -115,9 +114,9 @@ apart Compressed c = omega arith
 
 -- all nine wires joined are the columns struck
 pub wires-struck : (pitch : Pitch) (held columns page : List ℕ) (r : Row) (c at : ℕ) → length columns ≡ 8
-    → at + 6600 + suc (between pitch) ≤ length page → 8 < length held * suc (between pitch) → Held (between pitch) columns 0 held
+    → 8 < length held * suc (between pitch) → Held (between pitch) columns 0 held
     → at * 8 ≡ dot-at lp2 r (lp2 .grid pitch c) → wired (between pitch) held at page 9 ≡ blacken-all page (line-marks lp2 columns pitch r c)
 unfolding rows blacken-all
-wires-struck pitch held columns page r c at eight fits many holds place =
-    wires-left (between pitch) held columns page at eight fits many holds 9 0 (omega arith)
+wires-struck pitch held columns page r c at eight many holds place =
+    wires-left (between pitch) held columns page at eight many holds 9 0 (omega arith)
     ∙ rows-line pitch (suc (between pitch)) (apart pitch) page columns r c (at * 8) place

@@ -42,7 +42,7 @@ returns : tie.Need-returns
 unfolding between
 returns c columns r first eight low-is middle-is high-is place =
     nine-joined (c .before .before)
-    ∙ wires-struck Compressed _ columns _ r first _ eight (omega (arith, start-at-returns c .pre)) (lit< tt) (low-is, (middle-is, (high-is, tt))) place
+    ∙ wires-struck Compressed _ columns _ r first _ eight (lit< tt) (low-is, (middle-is, (high-is, tt))) place
 
 pub wires-compressed-spec : {M : Type 1} → statement M
 wires-compressed-spec =

@@ -41,7 +41,7 @@ returns : tie.Need-returns
 unfolding between
 returns c columns r first eight low-is high-is place =
     nine-joined (c .before .before)
-    ∙ wires-struck Normal _ columns _ r first _ eight (omega (arith, start-at-returns c .pre)) (lit< tt) (low-is, (high-is, tt)) place
+    ∙ wires-struck Normal _ columns _ r first _ eight (lit< tt) (low-is, (high-is, tt)) place
 
 pub wires-normal-spec : {M : Type 1} → statement M
 wires-normal-spec =

@@ -1,11 +1,6 @@
 -- The places that the proof of `groups::wires_normal` names. Made by tools/places; nobody has to read it.
 use Rattle.striking.proofs.groups.wires_normal.Tie as tie
 
-abbrev pub start-at-returns : tie.After-slice-known10 → tie.Start
-start-at-returns c = c .before .before .before .before .before .before .before .before .before .before .before .before .before .before .before .before
-    .before .before .before .before .before .before .before .before .before .before .before .before .before .before .before .before .before .before
-    .before .before .before
-
 abbrev pub start-at-wire-normal-requires-9 : tie.After-wire-normal-arg9 → tie.Start
 start-at-wire-normal-requires-9 c = c .before .before .before .before .before .before .before .before .before .before .before .before .before .before
     .before .before .before .before .before .before .before .before .before .before .before .before .before .before .before .before .before .before
