@@ -1,5 +1,5 @@
--- Dots may be blackened in any order and any number of times: the page depends on which they are alone.
-use Prim.Native.Nat.{ℕ, zero, suc, _-_, _/_, _%_, _^_, _≤_, _<_}
+-- Dots may be blackened in any order and any number of times: the page depends only on which they are.
+use Prim.Native.Nat.{ℕ, _-_, _/_, _%_, _^_, _≤_, _<_}
 use mathlib.Core.Path.{_≡_, refl, sym, ap, _∙_}
 use mathlib.Core.Logic.{inl, inr, _↔_, _≢_}
 use mathlib.Core.List.{List, [], _∷_}
@@ -8,14 +8,14 @@ use native.Mathlib.Decide.{ℕ-discrete, decLt}
 use lib.Bits.{bitOr, or-comm, or-self}
 use lib.ListN.{length, getD, set, length-set}
 use lib.Seq.{getD-set-same, getD-set-other, set-out, set-set, set-comm}
-use Rattle.sheet.specs.Dots.{blacken, blacken-all, mark-if, In}
+use Rattle.sheet.specs.Dots.{blacken, blacken-all, In}
 use Rattle.sheet.proofs.Bits.{or-assoc}
 
 -- the page with ink joined to byte i
 abbrev pub inked : List ℕ → ℕ → ℕ → List ℕ
 inked page i ink = set page i (bitOr (getD page i 0) ink)
 
--- joined twice to one byte, it is joined once with both
+-- ink joined twice to one byte is both joined at once
 pub inked-twice : (page : List ℕ) (i a b : ℕ) → inked (inked page i a) i b ≡ inked page i (bitOr a b)
 inked-twice page i a b = go (decLt i (length page))
   where
@@ -29,7 +29,7 @@ inked-twice page i a b = go (decLt i (length page))
         ∙ ap (set page i) (or-assoc (getD page i 0) a b)
     go (no out) = none (inked page i a) _ (omega arith) (length-set page i _) ∙ none page _ (omega arith) refl ∙ sym (none page _ (omega arith) refl)
 
--- joined to two bytes, it may be in either order
+-- ink is joined to two bytes in either order
 inked-apart : (page : List ℕ) (i j a b : ℕ) → j ≢ i → inked (inked page i a) j b ≡ inked (inked page j b) i a
 inked-apart page i j a b apart =
     ap (λ (x : ℕ). set (inked page i a) j (bitOr x b)) (getD-set-other page i j (bitOr (getD page i 0) a) 0 apart)
@@ -76,12 +76,6 @@ unfolding blacken-all
 blacken-all-swap page [] ys = refl
 blacken-all-swap page (x ∷ xs) ys =
     blacken-all-swap (blacken page x) xs ys ∙ ap (λ (p : List ℕ). blacken-all p xs) (blacken-after page x ys)
-
--- a mark before some marks is blackened before them
-pub mark-first : (page : List ℕ) (b d : ℕ) (ds : List ℕ) → blacken-all page (mark-if b d ds) ≡ blacken-all (blacken-all page (mark-if b d [])) ds
-unfolding blacken-all mark-if
-mark-first page zero d ds = refl
-mark-first page (suc b) d ds = refl
 
 -- a dot of a list that is blackened has nothing left to blacken
 blacken-one-again : (page ds : List ℕ) (d : ℕ) → In d ds → blacken (blacken-all page ds) d ≡ blacken-all page ds

@@ -131,7 +131,7 @@ module _ (e : Edition) where
   abbrev pub marks-at : List ℕ → Row → Pitch → ℕ → List ℕ
   marks-at line r pitch c = column-marks e (getD line c 0) r (e .grid pitch c)
 
-  -- d is a mark of a column of a line below W
+  -- d is a mark of a column below W of a line
   abbrev pub OfColumn : List ℕ → Row → Pitch → ℕ → Type 0
   OfColumn line r pitch d = (c : ℕ) × (c < e .width pitch) × In d (marks-at line r pitch c)
 

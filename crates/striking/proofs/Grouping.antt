@@ -18,9 +18,9 @@ use Rattle.sheet.specs.Edition.{lp2}
 use Rattle.sheet.specs.Form.{lower}
 use Rattle.sheet.specs.Dots.{bit, blacken-all, mark-if, dot-at, wire-marks, column-marks, line-marks}
 use Rattle.striking.specs.Groups.{any-wires, fields, ones, wire-dots, join-byte, join}
-use Rattle.sheet.proofs.AnyOrder.{blacken-all-swap, mark-first}
+use Rattle.sheet.proofs.AnyOrder.{blacken-all-swap}
 use Rattle.sheet.proofs.Bits.{bit-lt}
-use Rattle.sheet.proofs.Blackening.{blacken-all-append}
+use Rattle.sheet.proofs.Blackening.{blacken-all-append, mark-first}
 use Rattle.sheet.proofs.Marks.{no-wires}
 use Rattle.striking.proofs.Joining.{bit-marks, bit-marks-moved, bit-marks-last, joined}
 

@@ -2,6 +2,7 @@
 
 use crate::calls::{close, feed, open, Answer, Closing, Fed};
 use crate::lent::{Lent, FONT};
+use crate::random::Random;
 use crate::sheet::Form;
 use crate::state::State;
 
@@ -55,6 +56,24 @@ impl Bench {
 
     /// Is the dot black at a row and a grid position?
     pub fn dot(&self, row: usize, grid: usize) -> bool {
-        self.lent.page[row * 825 + grid / 8] >> (7 - grid % 8) & 1 == 1
+        dot(&self.lent.page, row, grid)
     }
+}
+
+pub fn dot(page: &[u8], row: usize, grid: usize) -> bool {
+    page[row * 825 + grid / 8] >> (7 - grid % 8) & 1 == 1
+}
+
+/// A page with some dots, with many, or with all but some.
+pub fn dotted_page(random: &mut Random, bytes: usize) -> Vec<u8> {
+    let mut page = match random.below(3) {
+        0 => vec![0x00; bytes],
+        1 => (0..bytes).map(|_| random.byte(0..=255)).collect(),
+        _ => vec![0xFF; bytes],
+    };
+    for _ in 0..random.number(1..=500) {
+        page[random.below(bytes)] ^= 1 << random.below(8);
+    }
+    assert!(page.iter().any(|&byte| byte != 0));
+    page
 }

@@ -31,11 +31,15 @@ mod random;
 #[cfg(test)]
 mod bench;
 #[cfg(test)]
+mod black_dots_tests;
+#[cfg(test)]
 mod decisions_tests;
 #[cfg(test)]
 mod form_end_tests;
 #[cfg(test)]
 mod generator_tests;
+#[cfg(test)]
+mod striking_tests;
 #[cfg(test)]
 mod table_tests;
 

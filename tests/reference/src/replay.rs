@@ -73,7 +73,7 @@ fn play(script: &[u8], output: &mut impl Write) -> io::Result<()> {
 
 /// The pieces: two bytes of length, high first, and that many bytes, or what
 /// is there of them. A single byte at the end is no length.
-fn pieces(mut rest: &[u8]) -> Vec<&[u8]> {
+pub fn pieces(mut rest: &[u8]) -> Vec<&[u8]> {
     let mut pieces = Vec::new();
     while rest.len() >= 2 {
         let length = usize::from(u16::from_be_bytes([rest[0], rest[1]]));

@@ -102,17 +102,22 @@ impl Pitch {
     }
 }
 
-/// Strikes the line at a row that fits: each set wire i of each column below W
-/// blackens row r + i − 1, and the whole store is then zeroed.
+/// Strikes the line at a row that fits: each column below W is struck, and the
+/// whole store is then zeroed.
 pub fn strike(page: &mut [u8], line_store: &mut [u16], row: Row, pitch: Pitch) {
     for (column, &number) in line_store[..pitch.columns()].iter().enumerate() {
-        for wire in 1..=WIRES {
-            if number & wire_bit(wire) != 0 {
-                blacken(page, Row(row.0 + wire - 1), pitch.grid(column));
-            }
-        }
+        strike_column(page, number, row, pitch.grid(column));
     }
     line_store.fill(0);
+}
+
+/// Each set wire i of a column blackens its grid position in row r + i − 1.
+pub fn strike_column(page: &mut [u8], number: u16, row: Row, grid: Grid) {
+    for wire in 1..=WIRES {
+        if number & wire_bit(wire) != 0 {
+            blacken(page, Row(row.0 + wire - 1), grid);
+        }
+    }
 }
 
 /// Blackens one dot; the leftmost position is in a byte's highest bit.

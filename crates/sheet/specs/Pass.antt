@@ -1,4 +1,4 @@
--- The way of the print head over a line: it strikes the line's columns one after the other. Document 02, #111.
+-- A pass of the print head over a line: it strikes the line's columns one after the other. Document 02, #111.
 use Prim.Native.Nat.{ℕ, zero, suc, _<_}
 use mathlib.Core.List.{List, [], _∷_, _++_}
 use lib.ListN.{getD}
@@ -17,17 +17,17 @@ module _ (e : Edition) where
   columns-struck page line r pitch [] = page
   columns-struck page line r pitch (c ∷ cs) = columns-struck (column-struck page line r pitch c) line r pitch cs
 
--- The columns that the head strikes on its way over a line, in its order: each column below W once at least, and no other.
+-- A pass, as the columns that the head strikes, in order: each column below W once at least, and no other.
 pub record Pass (e : Edition) (pitch : Pitch) (columns : List ℕ) : Type 0 where
   pub each : (c : ℕ) → c < e .width pitch → In c columns
   pub no-other : (c : ℕ) → In c columns → c < e .width pitch
 
--- n columns from left to right
+-- the first n columns, from left to right
 unfoldable pub rightward : ℕ → List ℕ
 rightward zero = []
 rightward (suc n) = rightward n ++ (n ∷ [])
 
--- n columns from right to left
+-- the first n columns, from right to left
 unfoldable pub leftward : ℕ → List ℕ
 leftward zero = []
 leftward (suc n) = n ∷ leftward n
