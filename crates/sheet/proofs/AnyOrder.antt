@@ -77,7 +77,7 @@ blacken-all-swap page [] ys = refl
 blacken-all-swap page (x ∷ xs) ys =
     blacken-all-swap (blacken page x) xs ys ∙ ap (λ (p : List ℕ). blacken-all p xs) (blacken-after page x ys)
 
--- a dot of a list that is blackened has nothing left to blacken
+-- once a list of dots is blackened, blackening one of them again changes nothing
 blacken-one-again : (page ds : List ℕ) (d : ℕ) → In d ds → blacken (blacken-all page ds) d ≡ blacken-all page ds
 unfolding blacken-all
 blacken-one-again page [] d p = absurd p
@@ -87,7 +87,7 @@ blacken-one-again page (x ∷ xs) d (inl q) =
     ∙ ap (λ (p : List ℕ). blacken-all p xs) (blacken-again page x)
 blacken-one-again page (x ∷ xs) d (inr p) = blacken-one-again (blacken page x) xs d p
 
--- nor have any dots of the list
+-- nor does blackening any of them again
 pub blacken-all-again : (page ds again : List ℕ) → ((d : ℕ) → In d again → In d ds)
     → blacken-all (blacken-all page ds) again ≡ blacken-all page ds
 unfolding blacken-all

@@ -9,10 +9,10 @@ use Rattle.sheet.specs.declared.Pitch.{Pitch}
 use Rattle.sheet.specs.declared.Row.{Row}
 use Rattle.sheet.specs.Edition.{Edition}
 use Rattle.sheet.specs.Dots.{blacken-all, marks, struck, In}
-use Rattle.sheet.specs.Pass.{column-struck, columns-struck, leftward, rightward, Pass}
+use Rattle.sheet.specs.Pass.{column-struck, columns-struck, leftward, marks-at, rightward, Pass}
 use Rattle.sheet.proofs.Blackening.{blacken-all-append, in-left, in-right, in-append}
 use Rattle.sheet.proofs.AnyOrder.{blacken-all-again, same-dots}
-use Rattle.sheet.proofs.Marks.{OfColumn, marks-at, marks-columns}
+use Rattle.sheet.proofs.Marks.{OfColumn, marks-columns}
 
 -- the first n columns are those below n, from left to right
 rightward-to : (n c : ℕ) → In c (rightward n) → c < n

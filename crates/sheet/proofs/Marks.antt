@@ -1,7 +1,7 @@
 -- Which dots are the marks of a line, in any edition.
 use Prim.Native.Nat.{ℕ, zero, suc, _+_, _-_, _*_, _/_, _≤_, _<_}
 use mathlib.Core.Path.{_≡_, refl, sym, ap, _∙_, subst}
-use mathlib.Core.Logic.{_⊎_, inl, inr, ⊎-elim, _↔_}
+use mathlib.Core.Logic.{inl, inr, ⊎-elim, _↔_}
 use mathlib.Core.List.{List, [], _∷_}
 use native.Mathlib.Omega.{arith}
 use native.Mathlib.Nat.{mul-le-mul-right, zero-add}
@@ -14,6 +14,7 @@ use Rattle.sheet.specs.declared.Row.{Row}
 use Rattle.sheet.specs.Edition.{Edition}
 use Rattle.sheet.specs.Form.{form-rows, lower, page-bytes}
 use Rattle.sheet.specs.Dots.{bit, mark-if, dot-at, wire-marks, column-marks, line-marks, marks, In, OnForm, Strikes}
+use Rattle.sheet.specs.Pass.{marks-at}
 use Rattle.sheet.proofs.Editions.{Proper}
 use Rattle.sheet.proofs.Bits.{bit-lt}
 use Rattle.sheet.proofs.Blackening.{in-left, in-right, in-append}
@@ -127,13 +128,9 @@ module _ (e : Edition) where
       in-right d (column-marks e x r (e .grid pitch c)) (line-marks e (take n xs) pitch r (c + 1))
       (line-from n xs pitch r (c + 1) d (j, omega arith, subst (λ (k : ℕ). In d (column-marks e (getD xs j 0) r (e .grid pitch k))) z p))
 
-  -- the marks of column c of a line
-  abbrev pub marks-at : List ℕ → Row → Pitch → ℕ → List ℕ
-  marks-at line r pitch c = column-marks e (getD line c 0) r (e .grid pitch c)
-
   -- d is a mark of a column below W of a line
   abbrev pub OfColumn : List ℕ → Row → Pitch → ℕ → Type 0
-  OfColumn line r pitch d = (c : ℕ) × (c < e .width pitch) × In d (marks-at line r pitch c)
+  OfColumn line r pitch d = (c : ℕ) × (c < e .width pitch) × In d (marks-at e line r pitch c)
 
   -- the marks of a line are the marks of its columns below W
   pub marks-columns : (line : List ℕ) (r : Row) (pitch : Pitch) (d : ℕ) → In d (marks e line r pitch) ↔ OfColumn line r pitch d

@@ -8,9 +8,13 @@ use Rattle.sheet.specs.Dots.{blacken-all, column-marks, In}
 use Rattle.sheet.specs.Edition.{Edition}
 
 module _ (e : Edition) where
-  -- the page with column c of a line struck at row r: its nine wires, at its grid position
+  -- the dots of column c of a line struck at row r: of its nine wires, at its grid position
+  abbrev pub marks-at : List ℕ → Row → Pitch → ℕ → List ℕ
+  marks-at line r pitch c = column-marks e (getD line c 0) r (e .grid pitch c)
+
+  -- the page with that column struck
   unfoldable pub column-struck : List ℕ → List ℕ → Row → Pitch → ℕ → List ℕ
-  column-struck page line r pitch c = blacken-all page (column-marks e (getD line c 0) r (e .grid pitch c))
+  column-struck page line r pitch c = blacken-all page (marks-at line r pitch c)
 
   -- the page with some columns of a line struck, one after the other
   unfoldable pub columns-struck : List ℕ → List ℕ → Row → Pitch → List ℕ → List ℕ
