@@ -21,7 +21,7 @@ use protocol::Lent;
 use protocol::Opened;
 use sheet::Form;
 use sheet::Pitch;
-use sheet::Row;
+use sheet::counts::top;
 use sheet::sizes::page_bytes;
 
 // The first of what is lent that has not its exact length.
@@ -53,7 +53,7 @@ pub fn new_printer(form: Form) -> Printer
     ensures { λ r. ⌜ r ≡ new-printer form ⌝ }
 {
     let head = Head {
-        row: Row(0),
+        row: top(),
         column: 0,
         fresh: true,
         plotted: false,

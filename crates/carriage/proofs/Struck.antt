@@ -18,7 +18,7 @@ use Rattle.printer.specs.Given.{given, stepped}
 use Rattle.printer.specs.Machine.{Machine, fresh-head, with-head}
 use Rattle.printer.specs.Steps.{Step, finished, quiet}
 use Rattle.printer.specs.Tabs.{line-tabs}
-use Rattle.printer.specs.Terminators.{carriage-return, current-line, first-tab, newline, strike, tab-to, vertical-tab}
+use Rattle.printer.specs.Terminators.{carriage-return, current-line, first-tab, form-feed, newline, strike, tab-to, vertical-tab}
 
 -- a line struck and the head on a fresh one, whatever is said of it
 pub done : (m : Machine) {next : Row} {r : Stepped} {q : Printer} {v : Event} {page line : List ℕ} →
@@ -36,9 +36,14 @@ module _ (m : Machine) where
     unfolding newline
     line-down e h = simp (← advance, ← down, h) e
 
-    pub form-over : {s : Step} → s ≡ finished (strike lp2 top m) → fits (m .printer .form) next ≡ false → s ≡ newline lp2 m
+    pub form-over : {s : Step} {first : Row} → first ≡ top → s ≡ finished (strike lp2 first m) → fits (m .printer .form) next ≡ false
+        → s ≡ newline lp2 m
     unfolding newline
-    form-over e h = simp (← advance, ← down, h) e
+    form-over t e h = simp (← advance, ← down, h, ← t) e
+
+  pub form-fed : {s : Step} {first : Row} → first ≡ top → s ≡ finished (strike lp2 first m) → s ≡ form-feed lp2 m
+  unfolding form-feed
+  form-fed t e = simp (← t) e
 
   pub tabbed-to : {s : Step} {n : Line} {below lowest : NextTab} → s ≡ tab-to lp2 below lowest m → n ≡ current-line m →
       below ≡ first-tab (next-line n) (drop (lines-through n) (line-tabs (m .printer .tabs))) →

@@ -6,6 +6,7 @@ ghost use lib.ListN.{length};
 ghost use Rattle.sheet.specs.Edition.{lp2};
 ghost use Rattle.printer.specs.Given.{given, machine};
 ghost use Rattle.printer.specs.Plotting.{plot, plot-byte, plot-escape};
+use codes::plots;
 use glyph::entering::or_in;
 use printer::Fault;
 use printer::Printer;
@@ -39,7 +40,7 @@ pub fn plot_byte(p: Printer, b: u8, place: u32, line: &mut [u16]) -> Stepped
     ensures { λ r. ⌜ ((page staging store : List ℕ)
         → given r page (now (line .exit)) staging store ≡ plot-byte lp2 b place (machine p page (now (line .entry)) staging store)) ⌝ }
 {
-    if b < 0x80 {
+    if plots(b) {
         plot(p, b, place, line)
     } else {
         noted(p, Fault::HighByte, place)

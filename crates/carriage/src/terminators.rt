@@ -14,8 +14,10 @@ ghost use Rattle.printer.specs.Terminators.{carriage-return, first-tab, form-fe
 use printer::NextTab;
 use printer::Printer;
 use printer::Stepped;
-use sheet::Line;
 use sheet::Row;
+use sheet::counts::line;
+use sheet::counts::lines_through;
+use sheet::counts::top;
 use sheet::sizes::first_row;
 use sheet::sizes::fits;
 use sheet::sizes::line_of;
@@ -77,7 +79,7 @@ pub fn newline(p: Printer, page: &mut [u8], line: &mut [u16]) -> Stepped
     if fits(form, next) {
         line_done(p, next, page, line)
     } else {
-        form_done(p, Row(0), page, line)
+        form_done(p, top(), page, line)
     }
 }
 
@@ -88,7 +90,7 @@ pub fn form_feed(p: Printer, page: &mut [u8], line: &mut [u16]) -> Stepped
         → given r (now (page .exit)) (now (line .exit)) staging store
         ≡ form-feed lp2 (machine p (now (page .entry)) (now (line .entry)) staging store)) ⌝ }
 {
-    form_done(p, Row(0), page, line)
+    form_done(p, top(), page, line)
 }
 
 // 0D.
@@ -111,7 +113,7 @@ fn first_tab(p: Printer, above: usize) -> NextTab
     let mut i = above;
     while i < 128 {
         if tabbed(tabs, i) {
-            return NextTab::Tabbed(Line(i + 1));
+            return NextTab::Tabbed(line(i + 1));
         }
         i += 1;
     }
@@ -145,7 +147,7 @@ pub fn vertical_tab(p: Printer, page: &mut [u8], line: &mut [u16]) -> Stepped
     let form = p.form;
     let row = p.head.row;
     let current = line_of(form, row);
-    let below = first_tab(p, current.0);
+    let below = first_tab(p, lines_through(current));
     let lowest = first_tab(p, 0);
     tab_to(p, below, lowest, page, line)
 }

@@ -16,6 +16,8 @@ use sheet::Line;
 use sheet::Pitch;
 use sheet::clearing::blank;
 use sheet::clearing::empty;
+use sheet::counts::line;
+use sheet::counts::lines_above;
 use sheet::sizes::line_of;
 use state::parts::after_reset;
 use state::parts::begin_plot;
@@ -32,7 +34,7 @@ fn tab(p: Printer, on: bool, line: Line) -> Printer
     requires { ⌜ 1 ≤ line .0 ⌝ }
     ensures { λ r. ⌜ r ≡ tab on line (bare p) .printer ⌝ }
 {
-    let tabs = with_tab(p.tabs, line.0 - 1, on);
+    let tabs = with_tab(p.tabs, lines_above(line), on);
     let mut q = p;
     q.tabs = tabs;
     q
@@ -60,7 +62,7 @@ pub fn tab_item(p: Printer, n: u8, place: u32) -> Stepped
     let form = p.form;
     let number = n as usize;
     if has_line(form, number) {
-        quiet(tab(p, true, Line(number)))
+        quiet(tab(p, true, line(number)))
     } else {
         noted(p, Fault::TabLine, place)
     }

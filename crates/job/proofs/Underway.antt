@@ -18,7 +18,7 @@ use Rattle.protocol.specs.declared.Answer.the-variants.{Done, JobFull}
 use Rattle.protocol.specs.Calls.{Feeding, limit, take-bytes}
 use Rattle.protocol.specs.Given.{answer-to, given-feeding, is-quiet, more}
 use Rattle.protocol.proofs.Taking.{more-zero, ready-room, taken-all, taken-full, taken-on, taken-out}
-use Rattle.runs.specs.Leads.{Leads}
+use Rattle.runs.proofs.Leading.{Leads}
 
 -- i bytes of a piece have led from one machine to another
 pub record Underway (font piece : List ℕ) (m₀ m : Machine) (i : ℕ) : Type 0 where
@@ -46,9 +46,9 @@ more-more i t f =
 
 module _ {font piece : List ℕ} {m₀ m : Machine} {i : ℕ} (h : Underway font piece m₀ m i) where
   -- a run more
-  pub after-run : {t : ℕ} {n : Machine} → Leads font (take (length piece - i) (drop i piece)) t m n → Underway font piece m₀ n (i + t)
+  pub after-run : {t : ℕ} {n : Machine} → Leads lp2 font (take (length piece - i) (drop i piece)) t m n → Underway font piece m₀ n (i + t)
   after-run {t} {n} r =
-      let l : Leads font (drop i piece) t m n = subst (λ (bs : List ℕ). Leads font bs t m n) (left-over piece i) r in
+      let l : Leads lp2 font (drop i piece) t m n = subst (λ (bs : List ℕ). Leads lp2 font bs t m n) (left-over piece i) r in
       record {
         ready = l .ready (h .ready);
         within = let k = l .within in omega (arith, h .within, length-drop i piece);

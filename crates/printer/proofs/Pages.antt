@@ -14,12 +14,12 @@ use Rattle.printer.specs.declared.Pending.the-variants.{Nothing, Escape,
 use Rattle.printer.specs.declared.Pending.the-variants.{AddressLow, Payload}
 use Rattle.printer.specs.declared.NextTab.{NextTab}
 use Rattle.printer.specs.declared.NextTab.the-variants.{Tabbed, Untabbed}
-use Rattle.printer.specs.Alone.{alone, text-byte}
+use Rattle.printer.specs.Alone.{alone, prints, text-byte}
 use Rattle.printer.specs.Bytes.{act, first-byte, payload-byte, second-byte, step, tab-byte, text-escape}
 use Rattle.printer.specs.Downloads.{download}
 use Rattle.printer.specs.Escapes.{after-reset, clear-tabs, escape, in-turn, reset, select, tab, tab-here, tab-item}
 use Rattle.printer.specs.Machine.{Machine, with-job}
-use Rattle.printer.specs.Plotting.{plot, plot-byte, plot-escape}
+use Rattle.printer.specs.Plotting.{plot, plots, plot-byte, plot-escape}
 use Rattle.printer.specs.Printing.{print}
 use Rattle.printer.specs.Steps.{Step}
 use Rattle.printer.specs.Strikes.{Strike, idle, in-progress, strike-all, strikes, strikes-of, terminator}
@@ -75,9 +75,9 @@ module _ (e : Edition) (m : Machine) where
   nothing b = eqb b 0 || (eqb b 7 || eqb b 0x7f)
 
   text-page : (font : List ℕ) (b place : ℕ) → Leaves (left-by (terminator b)) (text-byte e font b place m)
-  unfolding text-byte newline vertical-tab form-feed carriage-return strike terminator
+  unfolding prints text-byte newline vertical-tab form-feed carriage-return strike terminator
   text-page font b place =
-      leaves-test (leb 0x20 b && leb b 0x7e) _ _
+      leaves-test (prints b) _ _
       (λ q.
       let l = leb-true 0x20 b (and-eq-true-iff _ _ .0 q .0) in
       stays _ b (none b (λ r. omega arith) (λ r. omega arith) (λ r. omega arith) (λ r. omega arith)) (print-page font b place))
@@ -101,7 +101,7 @@ module _ (e : Edition) (m : Machine) where
 module _ (e : Edition) (font : List ℕ) (b here : ℕ) (m : Machine) where
   by-mode : (t : Bool) → Leaves (left-by e m (not t && terminator b)) (cond t (plot-byte e b here m) (text-byte e font b here m))
   unfolding plot-byte
-  by-mode true = leaves-cond (ltb b 0x80) _ _ (plot-page e m b here) refl
+  by-mode true = leaves-cond (plots b) _ _ (plot-page e m b here) refl
   by-mode false = text-page e m font b here
 
   -- ESC is no terminator

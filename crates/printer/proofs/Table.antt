@@ -13,9 +13,9 @@ use Rattle.printer.specs.Numbers.{note-number, told-report}
 use Rattle.printer.specs.Printing.{entered, print}
 use Rattle.printer.specs.Terminators.{first-tab, strike, newline, form-feed, carriage-return, tab-to, vertical-tab}
 use Rattle.printer.specs.Escapes.{tab, tab-here, clear-tabs, tab-item, in-turn, after-reset, reset, select, escape}
-use Rattle.printer.specs.Plotting.{plot, plot-byte, plot-escape}
+use Rattle.printer.specs.Plotting.{plot, plots, plot-byte, plot-escape}
 use Rattle.printer.specs.Downloads.{stage, total, out-of-range, replaced, download}
-use Rattle.printer.specs.Alone.{text-byte, alone}
+use Rattle.printer.specs.Alone.{prints, text-byte, alone}
 use Rattle.printer.specs.Bytes.{first-byte, text-escape, second-byte, tab-byte, payload-byte, act, step, run}
 use Rattle.printer.specs.Commands.{item, items, cut-tabs, cut-reset, cut-select, cut-checksum, cut-download, cut-escape, cut, set-tabs, obey}
 use Rattle.printer.specs.Commands.{leave-download, leave-select, leave, read-cut, read, reading}
@@ -26,7 +26,7 @@ unfolding lp2 lines-allowed spacing-allowed rows-per-line form-rows empty-line f
     well-formed all-well-formed cell or-in enter-narrow enter-wide underscore enter-glyph enter empty-store word-tabs line-tabs no-tabs put-bit
     with-tab form-sound untabbed tabs-sound fresh-sound plot-sound sound close-line close-command closing tell tell-step note-number told-report
     entered print first-tab strike newline form-feed carriage-return tab-to vertical-tab tab tab-here clear-tabs tab-item in-turn
-    after-reset reset select escape plot plot-byte plot-escape stage total out-of-range replaced download text-byte alone first-byte text-escape
+    after-reset reset select escape plot plots plot-byte plot-escape stage total out-of-range replaced download prints text-byte alone first-byte text-escape
     second-byte tab-byte payload-byte act step run item items cut-tabs cut-reset cut-select cut-checksum cut-download cut-escape cut set-tabs
     obey leave-download leave-select leave read-cut read reading look-at table stated found
 cases = record { by-bytes = λ font. refl; by-commands = λ font. refl }

@@ -1,6 +1,6 @@
 -- Plot mode. Document 01, "Plot mode".
 use Prim.Native.Nat.{ℕ, _+_}
-use mathlib.Core.Bool.{false, cond}
+use mathlib.Core.Bool.{Bool, false, cond, not, _&&_}
 use lib.Dec.{eqb, ltb}
 use Rattle.sheet.specs.Edition.{Edition}
 use Rattle.glyph.specs.Entering.{or-in}
@@ -24,9 +24,13 @@ leave-plot m =
     let h : Head = m .printer .head in
     with-head (record { row = h .row; column = h .column; fresh = h .fresh; plotted = h .plotted; plotting = false }) m
 
+-- 00..7F other than 1B are columns
+unfoldable pub plots : ℕ → Bool
+plots b = ltb b 0x80 && not (eqb b 0x1b)
+
 -- a byte by itself, other than 1B: 00..7F enters a column, 80..FF: note 46
 unfoldable pub plot-byte : Edition → ℕ → ℕ → Machine → Step
-plot-byte e b place m = cond (ltb b 0x80) (plot e b place m) (noted HighByte place m)
+plot-byte e b place m = cond (plots b) (plot e b place m) (noted HighByte place m)
 
 -- ESC and a byte: 1B 1B enters 1B, 1B 65 leaves, 1B with another byte: note 46
 unfoldable pub plot-escape : Edition → ℕ → ℕ → Machine → Step

@@ -17,6 +17,7 @@ use carriage::terminators::carriage_return;
 use carriage::terminators::form_feed;
 use carriage::terminators::newline;
 use carriage::terminators::vertical_tab;
+use codes::prints;
 use commands::downloads::payload_byte;
 use commands::escapes::escape;
 use commands::escapes::reset;
@@ -60,8 +61,10 @@ fn text_byte(
     ensures { λ r. ⌜ ((staging : List ℕ) → given r (now (page .exit)) (now (line .exit)) staging (now (store .entry))
         ≡ text-byte lp2 (now (font .entry)) b place (machine p (now (page .entry)) (now (line .entry)) staging (now (store .entry)))) ⌝ }
 {
+    if prints(b) {
+        return print(p, b, place, line, store, font);
+    }
     match b {
-        0x20..=0x7e => print(p, b, place, line, store, font),
         0x00 | 0x07 | 0x7f => quiet(p),
         0x0a => newline(p, page, line),
         0x0b => vertical_tab(p, page, line),

@@ -15,6 +15,7 @@ use report::say_note;
 use report::say_number;
 use sheet::Pitch;
 use sheet::Row;
+use sheet::counts::rows_above;
 use state::tabs::tabbed;
 
 // Writes words, a number and the line's end.
@@ -74,7 +75,7 @@ fn say_pitch(pitch: Pitch) -> bool {
 
 // Writes where the head stands.
 fn say_place(row: Row, column: usize) -> bool {
-    say_number(b"HEAD ", row.0 as u64) && say_number(b" ", column as u64)
+    say_number(b"HEAD ", rows_above(row) as u64) && say_number(b" ", column as u64)
 }
 
 // Writes the pitch and the features.

@@ -1,5 +1,6 @@
 -- What is true of runs of bytes.
-pub mod Leading
+pub mod Running
 pub mod Typed
 pub mod Plotted
 pub mod Staged
+pub mod Leading

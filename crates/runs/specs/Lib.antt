@@ -1,2 +1,2 @@
--- What a run of bytes leads to, as contracts say it.
-pub mod Leads
+-- Runs of like bytes: how long they are, and where they lead.
+pub mod Runs

@@ -3,9 +3,10 @@ ghost use mathlib.Core.Path.{_≡_};
 ghost use mathlib.Core.List.{List};
 ghost use Prim.Native.Nat.{ℕ, _+_, _≤_};
 ghost use lib.ListN.{length};
+ghost use Rattle.sheet.specs.Edition.{lp2};
 ghost use Rattle.printer.specs.declared.Pending.the-variants.{Payload};
 ghost use Rattle.printer.specs.Given.{machine};
-ghost use Rattle.runs.specs.Leads.{Leads, loading};
+ghost use Rattle.runs.specs.Runs.{fitting, given-run, loading, running};
 use crate::Ran;
 use commands::downloads::loaded;
 use commands::downloads::stage;
@@ -33,7 +34,7 @@ fn staged(p: Printer, place: u32, load: Load, job: u32, taken: usize) -> Ran
 }
 
 // The payload that a piece begins with, among its first n bytes, staged as far as the download lacks it.
-pub fn payload_run(
+pub(crate) fn payload_run(
     p: Printer,
     place: u32,
     load: Load,
@@ -41,10 +42,10 @@ pub fn payload_run(
     n: usize,
     staging: &mut [u8],
 ) -> Ran
-    requires { ⌜ (p .pending ≡ Payload place load) × (n ≤ length (now piece)) × (p .job + n ≤ 4294967295) ⌝ }
+    requires { ⌜ (p .pending ≡ Payload place load) × (n ≡ fitting (p .job) (now piece)) ⌝ }
     ensures { λ r. ⌜ ((font page line store : List ℕ)
-        → Leads font (now (piece .entry)) (r .taken) (machine p page line (now (staging .entry)) store)
-        (machine (r .printer) page line (now (staging .exit)) store)) ⌝ }
+        → given-run r page line (now (staging .exit)) store
+        ≡ running lp2 font (now (piece .entry)) (machine p page line (now (staging .entry)) store)) ⌝ }
 {
     let mut l = load;
     let mut job = p.job;

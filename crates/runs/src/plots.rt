@@ -1,29 +1,25 @@
 // A run of plotted columns.
 ghost use mathlib.Core.Path.{_≡_};
-ghost use mathlib.Core.Bool.{not, _&&_};
+ghost use mathlib.Core.Bool.{_&&_};
 ghost use mathlib.Core.List.{List};
 ghost use Prim.Native.Nat.{ℕ, _+_, _≤_};
-ghost use lib.Dec.{eqb, ltb};
+ghost use lib.Dec.{ltb};
 ghost use lib.ListN.{length};
+ghost use Rattle.sheet.specs.Edition.{lp2};
 ghost use Rattle.printer.specs.Given.{machine};
-ghost use Rattle.runs.specs.Leads.{Leads, Plotting};
+ghost use Rattle.printer.specs.Plotting.{plots};
+ghost use Rattle.runs.specs.Runs.{Plotting, fitting, given-run, running};
 use crate::Ran;
+use codes::plots;
 use glyph::entering::or_in;
 use printer::Printer;
 use sheet::sizes::width;
 
-// Whether a byte is by itself a column.
-fn is_column(b: u8) -> bool
-    ensures { λ r. ⌜ r ≡ (ltb b 0x80 && not (eqb b 0x1b)) ⌝ }
-{
-    b < 0x80 && b != 0x1b
-}
-
 // Whether a byte is a column, and there is a place for it on a line of w columns.
-fn plots(b: u8, at: usize, w: usize) -> bool
-    ensures { λ r. ⌜ r ≡ (ltb b 0x80 && not (eqb b 0x1b) && ltb at w) ⌝ }
+fn draws(b: u8, at: usize, w: usize) -> bool
+    ensures { λ r. ⌜ r ≡ (plots b && ltb at w) ⌝ }
 {
-    is_column(b) && at < w
+    plots(b) && at < w
 }
 
 // A byte as wires: the lowest seven.
@@ -34,11 +30,11 @@ fn wires(b: u8) -> u16
 }
 
 // The columns that a piece begins with, among its first n bytes, plotted as far as they fit the line.
-pub fn plot_run(p: Printer, piece: &[u8], n: usize, line: &mut [u16]) -> Ran
-    requires { ⌜ Plotting p × (p .head .column ≤ 2200) × (length (now line) ≡ 2200) × (n ≤ length (now piece)) × (p .job + n ≤ 4294967295) ⌝ }
+pub(crate) fn plot_run(p: Printer, piece: &[u8], n: usize, line: &mut [u16]) -> Ran
+    requires { ⌜ Plotting p × (p .head .column ≤ 2200) × (length (now line) ≡ 2200) × (n ≡ fitting (p .job) (now piece)) ⌝ }
     ensures { λ r. ⌜ ((font page staging store : List ℕ)
-        → Leads font (now (piece .entry)) (r .taken) (machine p page (now (line .entry)) staging store)
-        (machine (r .printer) page (now (line .exit)) staging store)) ⌝ }
+        → given-run r page (now (line .exit)) staging store
+        ≡ running lp2 font (now (piece .entry)) (machine p page (now (line .entry)) staging store)) ⌝ }
 {
     let style = p.style;
     let pitch = style.pitch;
@@ -48,7 +44,7 @@ pub fn plot_run(p: Printer, piece: &[u8], n: usize, line: &mut [u16]) -> Ran
     while k < n {
         let b = piece[k];
         let at = q.head.column;
-        if !plots(b, at, w) {
+        if !draws(b, at, w) {
             return Ran {
                 printer: q,
                 taken: k,

@@ -1,12 +1,13 @@
 // The run that a piece begins with.
 ghost use mathlib.Core.Path.{_≡_};
 ghost use mathlib.Core.List.{List};
-ghost use Prim.Native.Nat.{ℕ, _+_, _≤_};
-ghost use lib.ListN.{length};
+ghost use Prim.Native.Nat.{ℕ, _-_};
+ghost use Rattle.sheet.specs.Edition.{lp2};
 ghost use Rattle.printer.specs.declared.Pending.the-variants.{Nothing};
 ghost use Rattle.printer.specs.Given.{machine};
 ghost use Rattle.printer.specs.Room.{Writable};
-ghost use Rattle.runs.specs.Leads.{Leads};
+ghost use Rattle.protocol.specs.Calls.{limit};
+ghost use Rattle.runs.specs.Runs.{fitting, given-run, running};
 use crate::Ran;
 use crate::payload::payload_run;
 use crate::plots::plot_run;
@@ -26,14 +27,14 @@ fn none(p: Printer) -> Ran
 
 // How many more bytes the job can have.
 fn room(job: u32) -> usize
-    ensures { λ r. ⌜ job + r ≡ 4294967295 ⌝ }
+    ensures { λ r. ⌜ r ≡ limit - job ⌝ }
 {
     (4294967295 - job) as usize
 }
 
 // How many bytes of a piece fit the job.
 fn fitting(job: u32, piece: &[u8]) -> usize
-    ensures { λ r. ⌜ (r ≤ length (now (piece .entry))) × (job + r ≤ 4294967295) ⌝ }
+    ensures { λ r. ⌜ r ≡ fitting job (now (piece .entry)) ⌝ }
 {
     let most = room(job);
     if piece.len() < most {
@@ -45,10 +46,10 @@ fn fitting(job: u32, piece: &[u8]) -> usize
 
 // With nothing pending: columns in plot mode, characters outside it, and none on a plot line that plot mode has left.
 fn plain_run(p: Printer, piece: &[u8], n: usize, line: &mut [u16], store: &[u8], font: &[u8]) -> Ran
-    requires { ⌜ (p .pending ≡ Nothing) × Writable p (now line) (now store) (now font) × (n ≤ length (now piece)) × (p .job + n ≤ 4294967295) ⌝ }
+    requires { ⌜ (p .pending ≡ Nothing) × Writable p (now line) (now store) (now font) × (n ≡ fitting (p .job) (now piece)) ⌝ }
     ensures { λ r. ⌜ ((page staging : List ℕ)
-        → Leads (now (font .entry)) (now (piece .entry)) (r .taken) (machine p page (now (line .entry)) staging (now (store .entry)))
-        (machine (r .printer) page (now (line .exit)) staging (now (store .entry)))) ⌝ }
+        → given-run r page (now (line .exit)) staging (now (store .entry))
+        ≡ running lp2 (now (font .entry)) (now (piece .entry)) (machine p page (now (line .entry)) staging (now (store .entry)))) ⌝ }
 {
     if p.head.plotting {
         return plot_run(p, piece, n, line);
@@ -70,8 +71,9 @@ pub fn run(
 ) -> Ran
     requires { ⌜ Writable p (now line) (now store) (now font) ⌝ }
     ensures { λ r. ⌜ ((page : List ℕ)
-        → Leads (now (font .entry)) (now (piece .entry)) (r .taken) (machine p page (now (line .entry)) (now (staging .entry)) (now (store .entry)))
-        (machine (r .printer) page (now (line .exit)) (now (staging .exit)) (now (store .entry)))) ⌝ }
+        → given-run r page (now (line .exit)) (now (staging .exit)) (now (store .entry))
+        ≡ running lp2 (now (font .entry)) (now (piece .entry))
+        (machine p page (now (line .entry)) (now (staging .entry)) (now (store .entry)))) ⌝ }
 {
     let n = fitting(p.job, piece);
     let pending = p.pending;

@@ -5,25 +5,21 @@ ghost use mathlib.Core.List.{List};
 ghost use Prim.Native.Nat.{ℕ, _+_, _≤_};
 ghost use lib.Dec.{leb};
 ghost use lib.ListN.{length};
+ghost use Rattle.sheet.specs.Edition.{lp2};
+ghost use Rattle.printer.specs.Alone.{prints};
 ghost use Rattle.printer.specs.Given.{machine};
 ghost use Rattle.printer.specs.Room.{Writable};
-ghost use Rattle.runs.specs.Leads.{Leads, Typing};
+ghost use Rattle.runs.specs.Runs.{Typing, fitting, given-run, running};
 use crate::Ran;
+use codes::prints;
 use glyph::entering::cell;
 use glyph::entering::enter;
 use printer::Printer;
 use sheet::sizes::width;
 
-// Whether a byte prints.
-fn prints(b: u8) -> bool
-    ensures { λ r. ⌜ r ≡ (leb 0x20 b && leb b 0x7e) ⌝ }
-{
-    0x20 <= b && b <= 0x7e
-}
-
 // Whether a byte prints, and its cell, which ends before column `next`, fits a line of w columns.
 fn enters(b: u8, next: usize, w: usize) -> bool
-    ensures { λ r. ⌜ r ≡ (leb 0x20 b && leb b 0x7e && leb next w) ⌝ }
+    ensures { λ r. ⌜ r ≡ (prints b && leb next w) ⌝ }
 {
     prints(b) && next <= w
 }
@@ -38,10 +34,10 @@ fn code(b: u8) -> usize
 // Enters characters from the glyphs given, for as many of the first n bytes of a piece as print and fit the line.
 fn characters(p: Printer, piece: &[u8], n: usize, line: &mut [u16], glyphs: &[u8]) -> Ran
     requires { ⌜ Typing p × (p .head .column ≤ 2200) × (length (now line) ≡ 2200) × (length (now glyphs) ≡ 2048)
-        × (n ≤ length (now piece)) × (p .job + n ≤ 4294967295) ⌝ }
+        × (n ≡ fitting (p .job) (now piece)) ⌝ }
     ensures { λ r. ⌜ ((page staging store font : List ℕ) → cond (p .style .downloaded) store font ≡ now (glyphs .entry)
-        → Leads font (now (piece .entry)) (r .taken) (machine p page (now (line .entry)) staging store)
-        (machine (r .printer) page (now (line .exit)) staging store)) ⌝ }
+        → given-run r page (now (line .exit)) staging store
+        ≡ running lp2 font (now (piece .entry)) (machine p page (now (line .entry)) staging store)) ⌝ }
 {
     let style = p.style;
     let pitch = style.pitch;
@@ -72,7 +68,7 @@ fn characters(p: Printer, piece: &[u8], n: usize, line: &mut [u16], glyphs: &[u8
 }
 
 // The characters that a piece begins with, among its first n bytes.
-pub fn text_run(
+pub(crate) fn text_run(
     p: Printer,
     piece: &[u8],
     n: usize,
@@ -80,10 +76,10 @@ pub fn text_run(
     store: &[u8],
     font: &[u8],
 ) -> Ran
-    requires { ⌜ Typing p × Writable p (now line) (now store) (now font) × (n ≤ length (now piece)) × (p .job + n ≤ 4294967295) ⌝ }
+    requires { ⌜ Typing p × Writable p (now line) (now store) (now font) × (n ≡ fitting (p .job) (now piece)) ⌝ }
     ensures { λ r. ⌜ ((page staging : List ℕ)
-        → Leads (now (font .entry)) (now (piece .entry)) (r .taken) (machine p page (now (line .entry)) staging (now (store .entry)))
-        (machine (r .printer) page (now (line .exit)) staging (now (store .entry)))) ⌝ }
+        → given-run r page (now (line .exit)) staging (now (store .entry))
+        ≡ running lp2 (now (font .entry)) (now (piece .entry)) (machine p page (now (line .entry)) staging (now (store .entry)))) ⌝ }
 {
     if p.style.downloaded {
         characters(p, piece, n, line, store)

@@ -71,13 +71,20 @@ first-row f n = record { 0 = lines-above n * rows-per-line (f .spacing) }
 unfoldable pub line-of : Form → Row → Line
 line-of f r = line (1 + r .0 / rows-per-line (f .spacing))
 
+-- row n, which has n rows above it
+abbrev pub row : ℕ → Row
+row n = record { 0 = n }
+
+abbrev pub rows-above : Row → ℕ
+rows-above r = r .0
+
 -- the row that stands some rows lower
 abbrev pub lower : ℕ → Row → Row
 lower n r = record { 0 = r .0 + n }
 
 -- the first row of a form
 abbrev pub top : Row
-top = record { 0 = 0 }
+top = row 0
 
 -- the nine wires of a line struck at row r stay on the form: r + 9 ≤ L × R
 unfoldable pub fits : Form → Row → Bool

@@ -22,4 +22,5 @@ pub enum Pitch {
 }
 
 pub mod clearing;
+pub mod counts;
 pub mod sizes;

@@ -11,7 +11,7 @@ use Rattle.sheet.specs.declared.Pitch.{Pitch}
 use Rattle.sheet.specs.declared.Pitch.the-variants.{Normal, Compressed}
 use Rattle.sheet.specs.declared.Row.{Row}
 use Rattle.sheet.specs.Edition.{lp2}
-use Rattle.sheet.specs.Dots.{blacken-all, dot-at, column-marks, line-marks, marks, struck}
+use Rattle.sheet.specs.Dots.{blacken-all, page-byte, dot-at, column-marks, line-marks, marks, struck}
 use Rattle.sheet.proofs.Editions.{lp2-proper, lp2-row}
 use Rattle.sheet.proofs.Blackening.{blacken-all-append, length-blacken-all}
 use Rattle.striking.specs.Room.{Room}
@@ -56,13 +56,13 @@ pub record Placed (page : List ℕ) (row : Row) (pitch : Pitch) (c at : ℕ) : T
   pub fits : at + 6600 + suc (between pitch) ≤ length page
 
 -- so they do in a row from which on there is room, at the byte that the column's place on the grid gives
-pub placed : (page line : List ℕ) (row : Row) (p q : Pitch) (c : ℕ) (g : Grid) → Room page line row → c % 8 ≡ 0 → c < lp2 .width p → p ≡ q
-    → g ≡ lp2 .grid p c → Placed page row q c (row .0 * 825 + g .0 / 8)
-unfolding dot-at
-placed page line row p q c g room h l same e =
+pub placed : (page line : List ℕ) (row : Row) (p q : Pitch) (c : ℕ) (g : Grid) (at : ℕ) → Room page line row → c % 8 ≡ 0 → c < lp2 .width p → p ≡ q
+    → g ≡ lp2 .grid p c → at ≡ page-byte lp2 row g → Placed page row q c at
+unfolding dot-at page-byte lp2
+placed page line row p q c g at room h l same e byte =
     let here : g .0 ≡ byte-of p c * 8 = ap (λ (k : Grid). k .0) e ∙ at-top p c h in
     let spot : g .0 ≡ lp2 .grid q c .0 = ap (λ (k : Grid). k .0) e ∙ ap (λ (k : Pitch). lp2 .grid k c .0) same in
-    let place : (row .0 * 825 + g .0 / 8) * 8 ≡ row .0 * 6600 + lp2 .grid q c .0 = omega arith in
+    let place : at * 8 ≡ row .0 * 6600 + lp2 .grid q c .0 = omega arith in
     record {
       top = place ∙ ap (λ (w : ℕ). row .0 * w + lp2 .grid q c .0) (sym lp2-row);
       fits = omega (arith, filled p c h l, room .rows, ap between same);

@@ -12,6 +12,7 @@ ghost use Rattle.striking.specs.Groups.{any-wires, fields, wire-dots, jo
 ghost use Rattle.striking.specs.Room.{Room};
 use sheet::Pitch;
 use sheet::Row;
+use sheet::counts::page_byte;
 use sheet::sizes::grid;
 
 // The wires that any of the eight columns from c on has.
@@ -148,8 +149,7 @@ pub fn eight(page: &mut [u8], line: &[u16], row: Row, pitch: Pitch, c: usize)
     if any_wires(line, c) == 0 {
         return;
     }
-    let place = grid(pitch, c);
-    let at = row.0 * 825 + place.0 / 8;
+    let at = page_byte(row, grid(pitch, c));
     match pitch {
         Pitch::Normal => eight_normal(page, line, at, c),
         Pitch::Compressed => eight_compressed(page, line, at, c),

@@ -5,8 +5,8 @@ use mathlib.Core.Path.{_≡_}
 use lib.Dec.{eqb}
 use lib.ListN.{getD}
 use Rattle.sheet.specs.declared.Pitch.{Pitch}
+use Rattle.sheet.specs.declared.Row.{Row}
 use Rattle.printer.specs.declared.Pending.{Pending}
-use Rattle.printer.specs.declared.Printer.{Printer}
 use Rattle.words.specs.Words.{pending-of, pitch-of, state-of}
 
 module _ (ws : List ℕ) where
@@ -14,11 +14,11 @@ module _ (ws : List ℕ) where
   w k = getD ws k 0
 
   -- the state made of what was read of some words, the others as they stand
-  module _ {lines spacing job row column place byte count address taken : ℕ} {pitch : Pitch} {pending : Pending} where
+  module _ {lines spacing job column place byte count address taken : ℕ} {row : Row} {pitch : Pitch} {pending : Pending} where
     pub read-state : lines ≡ w 0
         → spacing ≡ w 1
         → job ≡ w 2
-        → row ≡ w 3
+        → row ≡ record { 0 = w 3 }
         → column ≡ w 4
         → pitch ≡ pitch-of (w 8)
         → place ≡ w 15
@@ -31,7 +31,7 @@ module _ (ws : List ℕ) where
           form = record { lines = lines; spacing = spacing };
           job = job;
           pending = pending;
-          head = record { row = record { 0 = row }; column = column; fresh = eqb (w 5) 1; plotted = eqb (w 6) 1; plotting = eqb (w 7) 1 };
+          head = record { row = row; column = column; fresh = eqb (w 5) 1; plotted = eqb (w 6) 1; plotting = eqb (w 7) 1 };
           style = record { pitch = pitch; elongated = eqb (w 9) 1; underscore = eqb (w 10) 1; downloaded = eqb (w 11) 1 };
           tabs = record { low = w 12; high = w 13 };
         } ≡ state-of ws

@@ -6,6 +6,7 @@ use mathlib.Core.Path.{_≡_, ap, subst, sym, _∙_}
 use native.Mathlib.Omega.{arith}
 use lib.ListN.{drop, drop-of-length-le, getD, length, take}
 use lib.Seq.{sets, sets-eq, take-at}
+use Rattle.sheet.specs.Form.{rows-above}
 use Rattle.printer.specs.declared.Pending.{Pending}
 use Rattle.printer.specs.declared.Pending.the-variants.{Nothing, Escape, Tabs, Reset, Select, SelectLow, CountHigh, CountLow, AddressHigh, AddressLow, Payload}
 use Rattle.printer.specs.declared.Printer.{Printer}
@@ -47,13 +48,14 @@ pub wrote-pending : (old : List ℕ) {new : List ℕ} {p q : Pending} → q ≡ 
 wrote-pending old {p = p} e h = (rw e (h .0), subst Ranged (sym e) (narrow-ranged p (h .1)))
 
 -- the words of a state before those of what is pending, by what was made of what is no number
-abbrev fourteen : Printer → ℕ → ℕ → ℕ → ℕ → ℕ → ℕ → ℕ → List ℕ
-fourteen p fresh plotted plotting pitch elongated underscore downloaded =
-    p .form .lines ∷ p .form .spacing ∷ p .job ∷ p .head .row .0 ∷ p .head .column ∷ fresh ∷ plotted ∷ plotting
+abbrev fourteen : Printer → ℕ → ℕ → ℕ → ℕ → ℕ → ℕ → ℕ → ℕ → List ℕ
+fourteen p rows fresh plotted plotting pitch elongated underscore downloaded =
+    p .form .lines ∷ p .form .spacing ∷ p .job ∷ rows ∷ p .head .column ∷ fresh ∷ plotted ∷ plotting
     ∷ pitch ∷ elongated ∷ underscore ∷ downloaded ∷ p .tabs .low ∷ p .tabs .high ∷ []
 
-pub wrote-state : (p : Printer) (old : List ℕ) {new : List ℕ} {fresh plotted plotting pitch elongated underscore downloaded : ℕ} → length old ≡ 20
+pub wrote-state : (p : Printer) (old : List ℕ) {new : List ℕ} {rows fresh plotted plotting pitch elongated underscore downloaded : ℕ} → length old ≡ 20
     → p .job ≤ 4294967295
+    → rows ≡ rows-above (p .head .row)
     → fresh ≡ truth (p .head .fresh)
     → plotted ≡ truth (p .head .plotted)
     → plotting ≡ truth (p .head .plotting)
@@ -61,11 +63,11 @@ pub wrote-state : (p : Printer) (old : List ℕ) {new : List ℕ} {fresh plotted
     → elongated ≡ truth (p .style .elongated)
     → underscore ≡ truth (p .style .underscore)
     → downloaded ≡ truth (p .style .downloaded)
-    → (new ≡ take 14 (sets old 0 (fourteen p fresh plotted plotting pitch elongated underscore downloaded)) ++ pending-words (p .pending))
+    → (new ≡ take 14 (sets old 0 (fourteen p rows fresh plotted plotting pitch elongated underscore downloaded)) ++ pending-words (p .pending))
     × Ranged (p .pending)
     → (new ≡ state-words p) × (is-state new ≡ true)
 unfolding state-words
-wrote-state p old {new} {fresh} {plotted} {plotting} {pitch} {elongated} {underscore} {downloaded} l j a b c d e f g h =
-    let before = written-before (fourteen p fresh plotted plotting pitch elongated underscore downloaded) old (omega arith) in
-    let put : new ≡ state-words p = h .0 ∙ ap (λ (ws : List ℕ). ws ++ pending-words (p .pending)) before ∙ simp (a, b, c, d, e, f, g) in
+wrote-state p old {new} {rows} {fresh} {plotted} {plotting} {pitch} {elongated} {underscore} {downloaded} l j r a b c d e f g h =
+    let before = written-before (fourteen p rows fresh plotted plotting pitch elongated underscore downloaded) old (omega arith) in
+    let put : new ≡ state-words p = h .0 ∙ ap (λ (ws : List ℕ). ws ++ pending-words (p .pending)) before ∙ simp (r, a, b, c, d, e, f, g) in
     (put, ap is-state put ∙ put-is-state p j (h .1))

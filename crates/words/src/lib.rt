@@ -13,7 +13,8 @@ use printer::Style;
 use printer::TabSet;
 use sheet::Form;
 use sheet::Pitch;
-use sheet::Row;
+use sheet::counts::row;
+use sheet::counts::rows_above;
 
 fn truth(on: bool) -> u64
     ensures { λ r. ⌜ r ≡ truth on ⌝ }
@@ -82,13 +83,14 @@ pub fn put(state: &mut [u64], p: Printer)
 {
     let form = p.form;
     let head = p.head;
+    let row = head.row;
     let style = p.style;
     let pitch = style.pitch;
     let pending = p.pending;
     state[0] = form.lines as u64;
     state[1] = form.spacing as u64;
     state[2] = p.job as u64;
-    state[3] = head.row.0 as u64;
+    state[3] = rows_above(row) as u64;
     state[4] = head.column as u64;
     state[5] = truth(head.fresh);
     state[6] = truth(head.plotted);
@@ -215,7 +217,7 @@ pub fn state_of(state: &[u64]) -> Printer
         spacing: size(state[1]),
     };
     let head = Head {
-        row: Row(size(state[3])),
+        row: row(size(state[3])),
         column: size(state[4]),
         fresh: state[5] == 1,
         plotted: state[6] == 1,

@@ -18,10 +18,9 @@ abbrev μ-loop : tie.MeasureT-loop
 
 returns : tie.Need-returns Inv-loop μ-loop
 returns c =
-    let l = c .before .before .before .loop in (
-      sym (l .inv .1 ∙ found (start-at-returns c .args .p .tabs) (l .i) (c .before .tabbed .ensures) (omega arith) (c .if1 .taken)),
-      (omega arith, omega arith),
-    )
+    let l = loop-at-returns c .loop in
+    found (start-at-returns c .args .p .tabs) (l .i) (c .before .before .tabbed .ensures) (omega arith)
+    (c .line .ensures) (l .inv .1) (c .before .if1 .taken)
 
 loop-again : tie.Need-loop-again Inv-loop μ-loop
 loop-again c =
@@ -34,5 +33,5 @@ returns-2 c = let l = c .before .loop in (sym (l .inv .1 ∙ none-below (c .befo
 pub first-tab-spec : {M : Type 1} → statement M
 first-tab-spec =
     tie.close
-    (tie.spec Inv-loop μ-loop (λ c. (omega arith, refl)) (λ c κs. search needs) (λ c. search needs) returns (λ c. search needs)
+    (tie.spec Inv-loop μ-loop (λ c. (omega arith, refl)) (λ c κs. search needs) (λ c. search needs) (λ c κs. search needs) returns (λ c. search needs)
     (λ c. search needs) loop-again returns-2)

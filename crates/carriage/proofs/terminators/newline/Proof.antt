@@ -23,11 +23,12 @@ returns-2 : tie.Need-returns-2
 returns-2 c staging store =
     let a = start-at-returns-2 c .args in
     form-over (machine (a .p) (a .page .now) (a .line .now) staging store) (advance-at-returns-2 c .advance .ensures .0)
-    (lower-at-returns-2 c .lower .ensures) (form-done-at-returns-2 c .form-done .ensures staging store)
+    (lower-at-returns-2 c .lower .ensures) (top-at-returns-2 c .top .ensures) (form-done-at-returns-2 c .form-done .ensures staging store)
     (sym (fits2-at-returns-2 c .fits2 .ensures) ∙ else1-at-returns-2 c .if1 .left)
 
 pub newline-spec : {M : Type 1} → statement M
 newline-spec =
     tie.close
-    (tie.spec (λ c κs. search needs) lower-requires (λ c κs. search needs) (λ c κs. search needs) (λ c κs. search needs) (λ c. search needs)
+    (tie.spec (λ c κs. search needs) lower-requires (λ c κs. search needs) (λ c κs. search needs) (λ c κs. search needs)
+    (λ c κs. search needs) (λ c. search needs)
     (λ c. search needs) returns (λ c. search needs) (λ c. search needs) returns-2)

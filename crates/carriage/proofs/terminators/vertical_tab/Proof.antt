@@ -5,12 +5,13 @@ use native.Mathlib.Omega.{arith}
 use Rattle.printer.specs.Given.{machine}
 use Rattle.carriage.proofs.Rooms.{line-bound}
 use Rattle.carriage.proofs.Struck.{tabbed-to}
+use Rattle.carriage.proofs.TabsBelow.{below-current}
 use Rattle.carriage.proofs.terminators.vertical_tab.Statement.{statement}
 use Rattle.carriage.proofs.terminators.vertical_tab.Tie as tie
 use Places.*
 
 first-tab-requires : tie.Need-first-tab-requires
-first-tab-requires c κs = omega (arith, line-bound (start-at-first-tab-requires c .pre) (c .line-of .ensures))
+first-tab-requires c κs = omega (arith, line-bound (start-at-first-tab-requires c .pre) (c .before .line-of .ensures), c .lines-through .ensures)
 
 tab-to-requires : tie.Need-tab-to-requires
 tab-to-requires c κs =
@@ -21,9 +22,11 @@ returns c staging store =
     let a = start-at-returns c .args in
     tabbed-to (machine (a .p) (a .page .now) (a .line .now) staging store)
     (tab-to-at-returns c .tab-to .ensures staging store) (line-of-at-returns c .line-of .ensures)
-    (first-tab-at-returns c .first-tab .ensures .0) (first-tab2-at-returns c .first-tab2 .ensures .0)
+    (below-current (a .p .tabs) (lines-through-at-returns c .lines-through .ensures) (first-tab-at-returns c .first-tab .ensures .0))
+    (first-tab2-at-returns c .first-tab2 .ensures .0)
 
 pub vertical-tab-spec : {M : Type 1} → statement M
 vertical-tab-spec =
     tie.close
-    (tie.spec (λ c κs. search needs) first-tab-requires (λ c κs. search needs) tab-to-requires (λ c. search needs) (λ c. search needs) returns)
+    (tie.spec (λ c κs. search needs) (λ c κs. search needs) first-tab-requires (λ c κs. search needs) tab-to-requires (λ c. search needs)
+    (λ c. search needs) returns)

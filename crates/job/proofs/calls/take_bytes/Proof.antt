@@ -9,12 +9,14 @@ use mathlib.Core.Path.{_≡_, refl, sym, _∙_}
 use native.Mathlib.Omega.{arith}
 use borrow.Author.Tests.{not-false, not-true}
 use lib.ListN.{length}
+use Rattle.sheet.specs.Edition.{lp2}
 use Rattle.printer.specs.declared.Printer.{Printer}
 use Rattle.printer.specs.Given.{given, machine}
 use Rattle.printer.specs.Machine.{Machine}
 use Rattle.printer.specs.Steps.{Step}
 use Rattle.protocol.specs.Calls.{limit}
 use Rattle.protocol.proofs.Taking.{ready-room}
+use Rattle.runs.proofs.Leading.{run-leads}
 use Rattle.job.proofs.Underway.{Underway, after-run, after-step, at-limit, at-start, told, used-up, writable}
 use Rattle.job.proofs.calls.take_bytes.Statement.{statement}
 use Rattle.job.proofs.calls.take_bytes.Tie as tie
@@ -53,7 +55,7 @@ so-far c = loop-at-run c .loop .i + c .run .result .taken
 -- the run leads on, and lengths stay
 ran : (c : tie.After-run Inv-loop μ-loop)
     → Underway (start-at-run c .args .font .now) (start-at-run c .args .piece .now) (first (start-at-run c)) (ran-to c) (so-far c)
-ran c = after-run (loop-at-run c .loop .inv .underway) (c .run .ensures (loop-at-run c .loop .page))
+ran c = after-run (loop-at-run c .loop .inv .underway) (run-leads lp2 _ (c .run .ensures (loop-at-run c .loop .page)))
 
 line-ran : (c : tie.After-run Inv-loop μ-loop) → length (ran-to c .line) ≡ length (start-at-run c .args .line .now)
 line-ran c = c .run .kept .1 .1 .0 ∙ loop-at-run c .loop .inv .line-kept

@@ -3,16 +3,17 @@ mod Places
 use borrow.Author.Needs.{needs}
 use Prim.Native.Nat.{ℕ, _-_, _<_}
 use mathlib.Core.List.{List}
-use mathlib.Core.Path.{_≡_, refl, _∙_}
+use mathlib.Core.Path.{_≡_, refl, sym, _∙_}
 use native.Mathlib.Omega.{arith}
 use lib.ListN.{length}
+use Rattle.sheet.specs.Edition.{lp2}
 use Rattle.printer.specs.declared.Load.{Load}
 use Rattle.printer.specs.declared.Printer.{Printer}
 use Rattle.printer.specs.Given.{machine}
 use Rattle.protocol.specs.Calls.{limit}
-use Rattle.runs.specs.Leads.{Leads, loading}
-use Rattle.runs.proofs.Leading.{Taken, countable, led, none-taken, one-more}
-use Rattle.runs.proofs.Staged.{begins, staged-on}
+use Rattle.runs.specs.Runs.{loading}
+use Rattle.runs.proofs.Running.{Runs, Taken, another-byte, none-taken, one-more, room-for-it, runs-over}
+use Rattle.runs.proofs.Staged.{begins, staged-on, staged-out}
 use Rattle.runs.proofs.payload.payload_run.Statement.{statement}
 use Rattle.runs.proofs.payload.payload_run.Tie as tie
 use Places.*
@@ -21,8 +22,8 @@ use Places.*
 record Inv (piece staging₀ staging : List ℕ) (p : Printer) (place n : ℕ) (l : Load) (job k : ℕ) : Type 0 where
   pub taken : Taken n k (p .job) job
   pub kept : length staging ≡ length staging₀
-  pub leads : (font page line store : List ℕ)
-      → Leads font piece k (machine p page line staging₀ store) (machine (loading place l job p) page line staging store)
+  pub runs : (font page line store : List ℕ)
+      → Runs lp2 font piece k (machine p page line staging₀ store) (machine (loading place l job p) page line staging store)
 
 abbrev Inv-loop : tie.InvT-loop
 Inv-loop p place piece n staging₀ l₀ job₀ k₀ staging l job k = Inv piece staging₀ staging p place n l job k
@@ -36,17 +37,22 @@ loop-holds c =
     record {
       taken = none-taken _ _;
       kept = refl;
-      leads = λ font page line store. begins (s .args .place) (s .args .p) font _ page line store _ _ (s .pre .0);
+      runs = λ font page line store. begins (s .args .place) (s .args .p) font _ page line store _ _ (s .pre .0);
     }
 
 inside : (c : tie.In-loop Inv-loop μ-loop) → c .before .loop .k < length (start-at-in-loop c .args .piece .now)
-inside c = omega (arith, c .loop-test, start-at-in-loop c .pre .1)
+inside c = another-byte (c .before .loop .inv .taken) (c .loop-test .taken) (start-at-in-loop c .args .piece .now) (start-at-in-loop c .pre .1)
 
 room : (c : tie.In-loop Inv-loop μ-loop) → c .before .loop .job < limit
-room c = countable (c .before .loop .inv .taken) (c .loop-test .taken) (start-at-in-loop c .pre .2)
+room c = room-for-it (c .before .loop .inv .taken) (c .loop-test .taken) (start-at-in-loop c .args .piece .now) (start-at-in-loop c .pre .1)
 
 returns : tie.Need-returns Inv-loop μ-loop
-returns c font page line store = led (c .staged .ensures) (loop-at-returns c .loop .inv .leads font page line store)
+returns c font page line store =
+    let s = start-at-returns c in
+    let l = loop-at-returns c .loop in
+    rw (c .staged .ensures)
+    (sym (staged-out (s .args .place) (s .args .p) font (s .args .piece .now) page line store (l .l) (l .job) (l .staging)
+    (l .inv .runs font page line store) (inside (in-loop-at-returns c)) (c .before .if1 .taken)))
 
 loop-again : tie.Need-loop-again Inv-loop μ-loop
 loop-again c =
@@ -56,13 +62,17 @@ loop-again c =
     record {
       taken = one-more (l .inv .taken) (i .loop-test .taken);
       kept = c .before .before .before .stage .kept .0 ∙ l .inv .kept;
-      leads = λ font page line store. staged-on (s .args .place) (s .args .p) font (s .args .piece .now) page line store (l .l) _ (l .job)
-          (l .staging) _ (l .inv .leads font page line store) (inside i) (room i) (else1-at-loop-again c .if1 .left)
+      runs = λ font page line store. staged-on (s .args .place) (s .args .p) font (s .args .piece .now) page line store (l .l) (l .job)
+          (l .staging) (l .inv .runs font page line store) (inside i) (room i) (else1-at-loop-again c .if1 .left)
           (c .before .before .before .stage .ensures) (c .loaded .ensures);
     }
 
 returns-2 : tie.Need-returns-2 Inv-loop μ-loop
-returns-2 c font page line store = led (c .staged2 .ensures) (c .before .before .loop .inv .leads font page line store)
+returns-2 c font page line store =
+    let s = start-at-returns-2 c in
+    let l = c .before .before .loop in
+    rw (c .staged2 .ensures)
+    (sym (runs-over (l .inv .runs font page line store) (s .args .p .job) (l .inv .taken .counted) (omega (arith, c .before .loop-test .left, s .pre .1))))
 
 pub payload-run-spec : {M : Type 1} → statement M
 payload-run-spec =

@@ -2,16 +2,20 @@
 mod Places
 use borrow.Author.Needs.{needs}
 use Prim.Native.Nat.{ℕ, _-_, _≤_, _<_}
+use mathlib.Core.Bool.{true}
 use mathlib.Core.List.{List}
-use mathlib.Core.Path.{_≡_, refl, _∙_}
+use mathlib.Core.Path.{_≡_, refl, sym, _∙_}
 use native.Mathlib.Omega.{arith}
+use borrow.Author.Tests.{not-true}
 use lib.ListN.{getD, length}
+use Rattle.sheet.specs.Edition.{lp2}
 use Rattle.printer.specs.declared.Printer.{Printer}
 use Rattle.printer.specs.Given.{machine}
+use Rattle.printer.specs.Plotting.{plots}
 use Rattle.protocol.specs.Calls.{limit}
-use Rattle.runs.specs.Leads.{Leads, Plotting}
-use Rattle.runs.proofs.Leading.{Taken, countable, leads-nowhere, none-taken, one-more}
-use Rattle.runs.proofs.Plotted.{Plots, on-line, plots-still, plotted-on, plotting}
+use Rattle.runs.specs.Runs.{Plotting}
+use Rattle.runs.proofs.Running.{Runs, Taken, another-byte, none-taken, one-more, room-for-it, runs-nowhere, runs-over}
+use Rattle.runs.proofs.Plotted.{drawing, on-line, plots-still, plotted-on, plotted-out}
 use Rattle.runs.proofs.plots.plot_run.Statement.{statement}
 use Rattle.runs.proofs.plots.plot_run.Tie as tie
 use Places.*
@@ -23,7 +27,7 @@ record Inv (piece line₀ line : List ℕ) (n : ℕ) (q₀ q : Printer) (k : ℕ
   pub column : q .head .column ≤ 2200
   pub taken : Taken n k (q₀ .job) (q .job)
   pub kept : length line ≡ length line₀
-  pub leads : (font page staging store : List ℕ) → Leads font piece k (machine q₀ page line₀ staging store) (machine q page line staging store)
+  pub runs : (font page staging store : List ℕ) → Runs lp2 font piece k (machine q₀ page line₀ staging store) (machine q page line staging store)
 
 abbrev Inv-loop : tie.InvT-loop
 Inv-loop piece n line₀ w q₀ k₀ line q k = Inv piece line₀ line n q₀ q k
@@ -40,25 +44,34 @@ loop-holds c =
       column = s .pre .1;
       taken = none-taken _ _;
       kept = refl;
-      leads = λ font page staging store. leads-nowhere font _ _;
+      runs = λ font page staging store. runs-nowhere lp2 font _ _;
     }
 
 inside : (c : tie.In-loop Inv-loop μ-loop) → c .before .loop .k < length (start-at-in-loop c .args .piece .now)
-inside c = omega (arith, c .loop-test, start-at-in-loop c .pre .3)
+inside c = another-byte (c .before .loop .inv .taken) (c .loop-test .taken) (start-at-in-loop c .args .piece .now) (start-at-in-loop c .pre .3)
 
 room : (c : tie.In-loop Inv-loop μ-loop) → c .before .loop .q .job < limit
-room c = countable (c .before .loop .inv .taken) (c .loop-test .taken) (start-at-in-loop c .pre .4)
+room c = room-for-it (c .before .loop .inv .taken) (c .loop-test .taken) (start-at-in-loop c .args .piece .now) (start-at-in-loop c .pre .3)
 
 returns : tie.Need-returns Inv-loop μ-loop
-returns c = loop-at-returns c .loop .inv .leads
+returns c font page staging store =
+    let l = loop-at-returns c .loop in
+    sym (plotted-out (start-at-returns c .args .p .style) (width-at-returns c .width .ensures) (l .inv .runs font page staging store) (l .inv .plotting)
+    (l .inv .style) (inside (c .before .before .before)) (c .before .draws .ensures) (not-true _ (c .if1 .taken)))
+
+returns-2 : tie.Need-returns-2 Inv-loop μ-loop
+returns-2 c font page staging store =
+    let l = c .before .loop in
+    let s = start-at-returns-2 c in
+    sym (runs-over (l .inv .runs font page staging store) (s .args .p .job) (l .inv .taken .counted) (omega (arith, c .loop-test .left, s .pre .3)))
 
 -- the byte is a column, and has a place on the line
-column : (c : tie.Else1 Inv-loop μ-loop) → Plots (getD (start-at-else1 c .args .piece .now) (loop-at-else1 c .loop .k) 0)
-    (loop-at-else1 c .loop .q .head .column) (width-at-else1 c .width .result)
-column c = plotting _ _ _ (c .before .plots .ensures) (c .if1 .left)
+column : (c : tie.Else1 Inv-loop μ-loop) → (plots (getD (start-at-else1 c .args .piece .now) (loop-at-else1 c .loop .k) 0) ≡ true)
+    × (loop-at-else1 c .loop .q .head .column < width-at-else1 c .width .result)
+column c = drawing _ _ _ (c .before .draws .ensures) (c .if1 .left)
 
 place : (c : tie.Else1 Inv-loop μ-loop) → loop-at-else1 c .loop .q .head .column < 2200
-place c = on-line (start-at-else1 c .args .p .style) (width-at-else1 c .width .ensures) (column c)
+place c = on-line (start-at-else1 c .args .p .style) (width-at-else1 c .width .ensures) (column c .1)
 
 or-in-requires : tie.Need-or-in-requires Inv-loop μ-loop
 or-in-requires c κs = omega (arith, place (c .before .before), loop-at-or-in-requires c .loop .inv .kept, start-at-or-in-requires c .pre .2)
@@ -77,8 +90,8 @@ loop-again c =
       column = omega (arith, place (else1-at-loop-again c));
       taken = one-more (l .inv .taken) (i .loop-test .taken);
       kept = or-in-at-loop-again c .or-in .kept .0 ∙ l .inv .kept;
-      leads = λ font page staging store. plotted-on (s .args .p .style) (width-at-loop-again c .width .ensures)
-          (l .inv .leads font page staging store) (l .inv .plotting) (l .inv .style) (inside i) (room i) (column (else1-at-loop-again c))
+      runs = λ font page staging store. plotted-on (s .args .p .style) (width-at-loop-again c .width .ensures)
+          (l .inv .runs font page staging store) (l .inv .plotting) (l .inv .style) (inside i) (room i) (column (else1-at-loop-again c))
           (wires-at-loop-again c .wires .ensures) (or-in-at-loop-again c .or-in .ensures);
     }
 
@@ -88,4 +101,4 @@ plot-run-spec =
     (tie.spec Inv-loop μ-loop (λ c κs. search needs) loop-holds (λ c. inside (c .before)) (λ c κs. search needs)
     (λ c. loop-at-returns c .loop .inv .kept) returns (λ c κs. search needs) or-in-requires add-next
     (λ c. omega (arith, room (in-loop-at-loop-again c))) (λ c. omega (arith, inside (in-loop-at-loop-again c), start-at-loop-again c))
-    (λ c. omega (arith, in-loop-at-loop-again c .loop-test)) loop-again (λ c. c .before .loop .inv .kept) (λ c. c .before .loop .inv .leads))
+    (λ c. omega (arith, in-loop-at-loop-again c .loop-test)) loop-again (λ c. c .before .loop .inv .kept) returns-2)

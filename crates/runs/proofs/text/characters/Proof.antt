@@ -2,18 +2,21 @@
 mod Places
 use borrow.Author.Needs.{needs}
 use Prim.Native.Nat.{ℕ, _+_, _-_, _≤_, _<_}
-use mathlib.Core.Bool.{cond}
+use mathlib.Core.Bool.{cond, true}
 use mathlib.Core.List.{List}
-use mathlib.Core.Path.{_≡_, refl, _∙_}
+use mathlib.Core.Path.{_≡_, refl, sym, _∙_}
 use native.Mathlib.Omega.{arith}
+use borrow.Author.Tests.{not-true}
 use lib.ListN.{getD, length}
+use Rattle.sheet.specs.Edition.{lp2}
 use Rattle.glyph.proofs.Cells.{cell-bounds}
 use Rattle.printer.specs.declared.Printer.{Printer}
+use Rattle.printer.specs.Alone.{prints}
 use Rattle.printer.specs.Given.{machine}
 use Rattle.protocol.specs.Calls.{limit}
-use Rattle.runs.specs.Leads.{Leads, Typing}
-use Rattle.runs.proofs.Leading.{Taken, countable, leads-nowhere, none-taken, one-more}
-use Rattle.runs.proofs.Typed.{Enters, entering, roomy, stays-on, typed-on, types-still}
+use Rattle.runs.specs.Runs.{Typing}
+use Rattle.runs.proofs.Running.{Runs, Taken, another-byte, none-taken, one-more, room-for-it, runs-nowhere, runs-over}
+use Rattle.runs.proofs.Typed.{entering, roomy, stays-on, typed-on, typed-out, types-still}
 use Rattle.runs.proofs.text.characters.Statement.{statement}
 use Rattle.runs.proofs.text.characters.Tie as tie
 use Places.*
@@ -25,8 +28,8 @@ record Inv (piece line₀ line glyphs : List ℕ) (n : ℕ) (q₀ q : Printer) (
   pub column : q .head .column ≤ 2200
   pub taken : Taken n k (q₀ .job) (q .job)
   pub kept : length line ≡ length line₀
-  pub leads : (page staging store font : List ℕ) → cond (q₀ .style .downloaded) store font ≡ glyphs
-      → Leads font piece k (machine q₀ page line₀ staging store) (machine q page line staging store)
+  pub runs : (page staging store font : List ℕ) → cond (q₀ .style .downloaded) store font ≡ glyphs
+      → Runs lp2 font piece k (machine q₀ page line₀ staging store) (machine q page line staging store)
 
 abbrev Inv-loop : tie.InvT-loop
 Inv-loop piece n line₀ glyphs style w each q₀ k₀ line q k = Inv piece line₀ line glyphs n q₀ q k
@@ -43,24 +46,34 @@ loop-holds c =
       column = s .pre .1;
       taken = none-taken _ _;
       kept = refl;
-      leads = λ page staging store font e. leads-nowhere font _ _;
+      runs = λ page staging store font e. runs-nowhere lp2 font _ _;
     }
 
 inside : (c : tie.In-loop Inv-loop μ-loop) → c .before .loop .k < length (start-at-in-loop c .args .piece .now)
-inside c = omega (arith, c .loop-test, start-at-in-loop c .pre .4)
+inside c = another-byte (c .before .loop .inv .taken) (c .loop-test .taken) (start-at-in-loop c .args .piece .now) (start-at-in-loop c .pre .4)
 
 room : (c : tie.In-loop Inv-loop μ-loop) → c .before .loop .q .job < limit
-room c = countable (c .before .loop .inv .taken) (c .loop-test .taken) (start-at-in-loop c .pre .5)
+room c = room-for-it (c .before .loop .inv .taken) (c .loop-test .taken) (start-at-in-loop c .args .piece .now) (start-at-in-loop c .pre .4)
 
 add-next : tie.Need-add-next Inv-loop μ-loop
 add-next c = omega (arith, c .before .before .loop, c .before .before .before .cell .ensures, cell-bounds (start-at-add-next c .args .p .style .elongated))
 
 returns : tie.Need-returns Inv-loop μ-loop
-returns c = loop-at-returns c .loop .inv .leads
+returns c page staging store font e =
+    let l = loop-at-returns c .loop in
+    sym (typed-out (start-at-returns c .args .p .style) (cell-at-returns c .cell .ensures) (width-at-returns c .width .ensures)
+    (l .inv .runs page staging store font e) (l .inv .typing) (l .inv .style) (inside (c .before .before .before)) (c .before .enters .ensures)
+    (not-true _ (c .if1 .taken)))
+
+returns-2 : tie.Need-returns-2 Inv-loop μ-loop
+returns-2 c page staging store font e =
+    let l = c .before .loop in
+    let s = start-at-returns-2 c in
+    sym (runs-over (l .inv .runs page staging store font e) (s .args .p .job) (l .inv .taken .counted) (omega (arith, c .loop-test .left, s .pre .4)))
 
 -- the byte prints, and its cell has room on the line
-character : (c : tie.Else1 Inv-loop μ-loop) → Enters (getD (start-at-else1 c .args .piece .now) (loop-at-else1 c .loop .k) 0)
-    (loop-at-else1 c .loop .q .head .column + cell-at-else1 c .cell .result) (width-at-else1 c .width .result)
+character : (c : tie.Else1 Inv-loop μ-loop) → (prints (getD (start-at-else1 c .args .piece .now) (loop-at-else1 c .loop .k) 0) ≡ true)
+    × (loop-at-else1 c .loop .q .head .column + cell-at-else1 c .cell .result ≤ width-at-else1 c .width .result)
 character c = entering _ _ _ (c .before .enters .ensures) (c .if1 .left)
 
 enter-requires : tie.Need-enter-requires Inv-loop μ-loop
@@ -78,11 +91,11 @@ loop-again c =
     record {
       typing = types-still _ (l .inv .typing);
       style = l .inv .style;
-      column = stays-on (s .args .p .style) (cell-at-loop-again c .cell .ensures) (width-at-loop-again c .width .ensures) b;
+      column = stays-on (s .args .p .style) (cell-at-loop-again c .cell .ensures) (width-at-loop-again c .width .ensures) (b .1);
       taken = one-more (l .inv .taken) (i .loop-test .taken);
       kept = enter-at-loop-again c .enter .kept .0 ∙ l .inv .kept;
-      leads = λ page staging store font e. typed-on (s .args .p .style) (cell-at-loop-again c .cell .ensures) (width-at-loop-again c .width .ensures)
-          (l .inv .leads page staging store font e) (l .inv .typing) (l .inv .style) (inside i) (room i) b e
+      runs = λ page staging store font e. typed-on (s .args .p .style) (cell-at-loop-again c .cell .ensures) (width-at-loop-again c .width .ensures)
+          (l .inv .runs page staging store font e) (l .inv .typing) (l .inv .style) (inside i) (room i) b e
           (code-at-loop-again c .code .ensures) (enter-at-loop-again c .enter .ensures);
     }
 
@@ -92,4 +105,4 @@ characters-spec =
     (tie.spec Inv-loop μ-loop (λ c κs. search needs) (λ c κs. search needs) loop-holds (λ c. inside (c .before)) add-next (λ c κs. search needs)
     (λ c. loop-at-returns c .loop .inv .kept) returns (λ c κs. search needs) enter-requires
     (λ c. omega (arith, room (in-loop-at-loop-again c))) (λ c. omega (arith, inside (in-loop-at-loop-again c), start-at-loop-again c))
-    (λ c. omega (arith, in-loop-at-loop-again c .loop-test)) loop-again (λ c. c .before .loop .inv .kept) (λ c. c .before .loop .inv .leads))
+    (λ c. omega (arith, in-loop-at-loop-again c .loop-test)) loop-again (λ c. c .before .loop .inv .kept) returns-2)

@@ -7,10 +7,12 @@ use mathlib.Core.List.{List}
 use native.Mathlib.Omega.{arith}
 use lib.ListN.{length, take, drop}
 use borrow.Author.Needs.{needs}
+use Rattle.sheet.specs.declared.Grid.{Grid}
 use Rattle.sheet.specs.declared.Pitch.{Pitch}
 use Rattle.sheet.specs.declared.Pitch.the-variants.{Normal, Compressed}
 use Rattle.sheet.specs.Edition.{lp2}
 use Rattle.sheet.specs.Dots.{blacken-all, line-marks}
+use Rattle.sheet.proofs.Editions.{lp2-proper, lp2-row}
 use Rattle.striking.proofs.Grouping.{none-set}
 use Rattle.striking.proofs.Wires.{between}
 use Rattle.striking.proofs.Striking.{below-store, on-line, Placed, placed}
@@ -25,12 +27,15 @@ inside s = on-line (s .args .line .now) (s .args .pitch) (s .args .c) (s .pre .1
 abbrev struck-in : tie.Start → Pitch → List ℕ
 struck-in s pitch = blacken-all (s .args .page .now) (line-marks lp2 (take 8 (drop (s .args .c) (s .args .line .now))) pitch (s .args .row) (s .args .c))
 
+in-pitch : (s : tie.Start) {page : List ℕ} {pitch : Pitch} → s .args .pitch ≡ pitch → page ≡ struck-in s pitch → page ≡ struck-in s (s .args .pitch)
+in-pitch s told e = e ∙ ap (struck-in s) (sym told)
+
 -- the columns begin at the byte that the code names, in the pitch that it has found
-begin : (c : tie.After-grid) (pitch : Pitch) → start-at-grid c .args .pitch ≡ pitch → let a = start-at-grid c .args in
-    Placed (a .page .now) (a .row) pitch (a .c) (a .row .0 * 825 + c .grid .result .0 / 8)
+begin : (c : tie.After-page-byte) (pitch : Pitch) → start-at-page-byte c .args .pitch ≡ pitch → let a = start-at-page-byte c .args in
+    Placed (a .page .now) (a .row) pitch (a .c) (c .page-byte .result)
 begin c pitch told =
-    let s = start-at-grid c in
-    placed _ (s .args .line .now) _ _ pitch _ _ (s .pre .0) (s .pre .1 .0) (s .pre .1 .1) told (c .grid .ensures)
+    let s = start-at-page-byte c in
+    placed _ (s .args .line .now) _ _ pitch _ _ _ (s .pre .0) (s .pre .1 .0) (s .pre .1 .1) told (c .before .grid .ensures) (c .page-byte .ensures)
 
 returns : tie.Need-returns
 returns c = none-set _ _ _ _ _ (omega (arith, c .before .any-wires .ensures, c .if1))
@@ -38,30 +43,37 @@ returns c = none-set _ _ _ _ _ (omega (arith, c .before .any-wires .ensures, c .
 grid-requires : tie.Need-grid-requires
 grid-requires c κs = omega (arith, start-at-grid-requires c .pre .1 .1, below-store (start-at-grid-requires c .args .pitch))
 
+-- the place is on the row, and the row's bytes are on the page
+page-byte-requires : tie.Need-page-byte-requires
+page-byte-requires c κs =
+    let s = start-at-page-byte-requires c in
+    let spot = lp2-proper .on-row (s .args .pitch) (s .args .c) (s .pre .1 .1) in
+    (omega (arith, s .pre .0 .rows, s), omega (arith, ap (λ (g : Grid). g .0) (c .grid .ensures), spot, lp2-row))
+
 eight-normal-requires : tie.Need-eight-normal-requires
 unfolding between
 eight-normal-requires c κs =
-    let at = begin (grid-at-eight-normal-requires c) Normal (c .before .enum-told .given .1) in
+    let at = begin (page-byte-at-eight-normal-requires c) Normal (c .before .enum-told .given .1) in
     (omega (arith, at .fits), inside (start-at-eight-normal-requires c))
 
 eight-compressed-requires : tie.Need-eight-compressed-requires
 unfolding between
 eight-compressed-requires c κs =
-    let at = begin (grid-at-eight-compressed-requires c) Compressed (c .before .enum-told2 .given .1) in
+    let at = begin (page-byte-at-eight-compressed-requires c) Compressed (c .before .enum-told2 .given .1) in
     (omega (arith, at .fits), inside (start-at-eight-compressed-requires c))
 
 returns-2 : tie.Need-returns-2
 returns-2 c =
     let told = enum-told-at-returns-2 c .enum-told .given .1 in
-    c .before .before .eight-normal .ensures _ (begin (grid-at-returns-2 c) Normal told .top) ∙ ap (struck-in (start-at-returns-2 c)) (sym told)
+    in-pitch (start-at-returns-2 c) told (c .before .before .eight-normal .ensures _ (begin (page-byte-at-returns-2 c) Normal told .top))
 
 returns-3 : tie.Need-returns-3
 returns-3 c =
     let told = enum-told2-at-returns-3 c .enum-told2 .given .1 in
-    c .before .before .eight-compressed .ensures _ (begin (grid-at-returns-3 c) Compressed told .top) ∙ ap (struck-in (start-at-returns-3 c)) (sym told)
+    in-pitch (start-at-returns-3 c) told (c .before .before .eight-compressed .ensures _ (begin (page-byte-at-returns-3 c) Compressed told .top))
 
 pub eight-spec : {M : Type 1} → statement M
 eight-spec =
     tie.close
-    (tie.spec (λ c κs. inside (c .before .before)) returns grid-requires (λ c. search needs) (λ c. search needs) (λ c. search needs)
+    (tie.spec (λ c κs. inside (c .before .before)) returns grid-requires page-byte-requires (λ c. search needs)
     eight-normal-requires (λ c. search needs) eight-compressed-requires (λ c. search needs) returns-2 (λ c. search needs) returns-3)

@@ -4,11 +4,16 @@ use Rattle.words.proofs.put.Tie as tie
 abbrev pub pitch-word-at-returns : tie.After-slice-known2 → tie.After-pitch-word
 pitch-word-at-returns c = c .before .before .before .before .before .before .before
 
+abbrev pub rows-above-at-returns : tie.After-slice-known2 → tie.After-rows-above
+rows-above-at-returns c = c .before .before .before .before .before .before .before .before .before .before .before
+
 abbrev pub start-at-put-pending-requires : tie.After-put-pending-arg → tie.Start
-start-at-put-pending-requires c = c .before .before .before .before .before .before .before .before .before .before .before .before .before
+start-at-put-pending-requires c = c .before .before .before .before .before .before .before .before .before .before .before .before .before .before
+    .before
 
 abbrev pub start-at-returns : tie.After-slice-known2 → tie.Start
 start-at-returns c = c .before .before .before .before .before .before .before .before .before .before .before .before .before .before .before .before
+    .before .before
 
 abbrev pub truth-at-returns : tie.After-slice-known2 → tie.After-truth
 truth-at-returns c = c .before .before .before .before .before .before .before .before .before .before

@@ -3,3 +3,9 @@ use Rattle.carriage.proofs.terminators.form_feed.Tie as tie
 
 abbrev pub form-done-at-returns : tie.After-slice-known4 → tie.After-form-done
 form-done-at-returns c = c .before .before .before .before
+
+abbrev pub start-at-returns : tie.After-slice-known4 → tie.Start
+start-at-returns c = c .before .before .before .before .before .before .before .before .before .before
+
+abbrev pub top-at-returns : tie.After-slice-known4 → tie.After-top
+top-at-returns c = c .before .before .before .before .before .before .before

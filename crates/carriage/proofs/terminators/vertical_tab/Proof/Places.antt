@@ -8,16 +8,19 @@ abbrev pub first-tab2-at-returns : tie.After-slice-known4 → tie.After-first-ta
 first-tab2-at-returns c = c .before .before .before .before .before .before .before
 
 abbrev pub line-of-at-returns : tie.After-slice-known4 → tie.After-line-of
-line-of-at-returns c = c .before .before .before .before .before .before .before .before .before
+line-of-at-returns c = c .before .before .before .before .before .before .before .before .before .before
 
-abbrev pub start-at-first-tab-requires : tie.After-line-of → tie.Start
-start-at-first-tab-requires c = c .before .before .before .before .before
+abbrev pub lines-through-at-returns : tie.After-slice-known4 → tie.After-lines-through
+lines-through-at-returns c = c .before .before .before .before .before .before .before .before .before
+
+abbrev pub start-at-first-tab-requires : tie.After-lines-through → tie.Start
+start-at-first-tab-requires c = c .before .before .before .before .before .before
 
 abbrev pub start-at-returns : tie.After-slice-known4 → tie.Start
-start-at-returns c = c .before .before .before .before .before .before .before .before .before .before .before .before .before .before
+start-at-returns c = c .before .before .before .before .before .before .before .before .before .before .before .before .before .before .before
 
 abbrev pub start-at-tab-to-requires : tie.After-tab-to-arg2 → tie.Start
-start-at-tab-to-requires c = c .before .before .before .before .before .before .before .before .before
+start-at-tab-to-requires c = c .before .before .before .before .before .before .before .before .before .before
 
 abbrev pub tab-to-at-returns : tie.After-slice-known4 → tie.After-tab-to
 tab-to-at-returns c = c .before .before .before .before

@@ -8,6 +8,9 @@ module _ {Inv-loop : tie.InvT-loop} {μ-loop : tie.MeasureT-loop} where
   abbrev pub in-loop-at-loop-again : tie.After-loaded Inv-loop μ-loop → tie.In-loop Inv-loop μ-loop
   in-loop-at-loop-again c = c .before .before .before .before .before .before .before .before
 
+  abbrev pub in-loop-at-returns : tie.After-staged Inv-loop μ-loop → tie.In-loop Inv-loop μ-loop
+  in-loop-at-returns c = c .before .before .before
+
   abbrev pub loop-at-loop-again : tie.After-loaded Inv-loop μ-loop → tie.At-loop Inv-loop μ-loop
   loop-at-loop-again c = c .before .before .before .before .before .before .before .before .before
 
@@ -19,3 +22,9 @@ module _ {Inv-loop : tie.InvT-loop} {μ-loop : tie.MeasureT-loop} where
 
   abbrev pub start-at-loop-again : tie.After-loaded Inv-loop μ-loop → tie.Start Inv-loop μ-loop
   start-at-loop-again c = c .before .before .before .before .before .before .before .before .before .before .before .before
+
+  abbrev pub start-at-returns : tie.After-staged Inv-loop μ-loop → tie.Start Inv-loop μ-loop
+  start-at-returns c = c .before .before .before .before .before .before .before
+
+  abbrev pub start-at-returns-2 : tie.After-staged2 Inv-loop μ-loop → tie.Start Inv-loop μ-loop
+  start-at-returns-2 c = c .before .before .before .before .before

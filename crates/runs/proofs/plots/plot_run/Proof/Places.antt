@@ -42,11 +42,20 @@ module _ {Inv-loop : tie.InvT-loop} {μ-loop : tie.MeasureT-loop} where
   abbrev pub start-at-or-in-requires : tie.After-wires Inv-loop μ-loop → tie.Start Inv-loop μ-loop
   start-at-or-in-requires c = c .before .before .before .before .before .before .before .before .before .before .before
 
+  abbrev pub start-at-returns : tie.Then1 Inv-loop μ-loop → tie.Start Inv-loop μ-loop
+  start-at-returns c = c .before .before .before .before .before .before .before .before .before
+
+  abbrev pub start-at-returns-2 : tie.After-loop Inv-loop μ-loop → tie.Start Inv-loop μ-loop
+  start-at-returns-2 c = c .before .before .before .before .before .before
+
   abbrev pub width-at-else1 : tie.Else1 Inv-loop μ-loop → tie.After-width Inv-loop μ-loop
   width-at-else1 c = c .before .before .before .before .before
 
   abbrev pub width-at-loop-again : tie.After-struct-known Inv-loop μ-loop → tie.After-width Inv-loop μ-loop
   width-at-loop-again c = c .before .before .before .before .before .before .before .before .before .before .before .before .before
+
+  abbrev pub width-at-returns : tie.Then1 Inv-loop μ-loop → tie.After-width Inv-loop μ-loop
+  width-at-returns c = c .before .before .before .before .before
 
   abbrev pub wires-at-loop-again : tie.After-struct-known Inv-loop μ-loop → tie.After-wires Inv-loop μ-loop
   wires-at-loop-again c = c .before .before .before .before .before .before

@@ -3,3 +3,6 @@ use Rattle.runs.proofs.runs.plain_run.Tie as tie
 
 abbrev pub start-at-returns : tie.After-slice-known2 → tie.Start
 start-at-returns c = c .before .before .before .before .before .before .before .before .before
+
+abbrev pub start-at-returns-2 : tie.After-none → tie.Start
+start-at-returns-2 c = c .before .before .before .before .before .before .before

@@ -11,6 +11,9 @@ module _ {Inv-loop : tie.InvT-loop} {μ-loop : tie.MeasureT-loop} where
   abbrev pub cell-at-loop-again : tie.After-struct-known Inv-loop μ-loop → tie.After-cell Inv-loop μ-loop
   cell-at-loop-again c = c .before .before .before .before .before .before .before .before .before .before .before .before .before
 
+  abbrev pub cell-at-returns : tie.Then1 Inv-loop μ-loop → tie.After-cell Inv-loop μ-loop
+  cell-at-returns c = c .before .before .before .before .before
+
   abbrev pub code-at-loop-again : tie.After-struct-known Inv-loop μ-loop → tie.After-code Inv-loop μ-loop
   code-at-loop-again c = c .before .before .before .before .before .before
 
@@ -54,6 +57,12 @@ module _ {Inv-loop : tie.InvT-loop} {μ-loop : tie.MeasureT-loop} where
   abbrev pub start-at-loop-holds : tie.After-cell Inv-loop μ-loop → tie.Start Inv-loop μ-loop
   start-at-loop-holds c = c .before .before .before .before .before .before
 
+  abbrev pub start-at-returns : tie.Then1 Inv-loop μ-loop → tie.Start Inv-loop μ-loop
+  start-at-returns c = c .before .before .before .before .before .before .before .before .before .before .before
+
+  abbrev pub start-at-returns-2 : tie.After-loop Inv-loop μ-loop → tie.Start Inv-loop μ-loop
+  start-at-returns-2 c = c .before .before .before .before .before .before .before .before
+
   abbrev pub width-at-else1 : tie.Else1 Inv-loop μ-loop → tie.After-width Inv-loop μ-loop
   width-at-else1 c = c .before .before .before .before .before .before
 
@@ -62,3 +71,6 @@ module _ {Inv-loop : tie.InvT-loop} {μ-loop : tie.MeasureT-loop} where
 
   abbrev pub width-at-loop-again : tie.After-struct-known Inv-loop μ-loop → tie.After-width Inv-loop μ-loop
   width-at-loop-again c = c .before .before .before .before .before .before .before .before .before .before .before .before .before .before
+
+  abbrev pub width-at-returns : tie.Then1 Inv-loop μ-loop → tie.After-width Inv-loop μ-loop
+  width-at-returns c = c .before .before .before .before .before .before
