@@ -14,6 +14,7 @@ pub mod Plotting
 pub mod Downloads
 pub mod Alone
 pub mod Bytes
+pub mod Notes
 pub mod Commands
 pub mod Given
 pub mod Room
