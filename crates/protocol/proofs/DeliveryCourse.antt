@@ -13,11 +13,7 @@ use Rattle.protocol.specs.declared.Answer.the-variants.{Done, Finished, 
 use Rattle.protocol.specs.Calls.{Feeding}
 use Rattle.protocol.specs.Course.{Course, OneFeeding, and-then, come-of, delivery-course, following, forms-told, last-of, last-page}
 use Rattle.protocol.specs.Course.{offer-course, relent}
-use Rattle.protocol.specs.Protocol.{Delivery, after, answered, delivery, offer, used-up}
-
--- a delivery of a piece, and the next ones where it is used up
-abbrev on : Delivery → (Machine → Delivery) → Delivery
-on d go = cond (used-up (d .answer)) (after (d .told) (go (d .machine))) d
+use Rattle.protocol.specs.Protocol.{Delivery, after, answered, delivery, offer, on, used-up}
 
 -- what is told before a delivery is told before it and the next ones
 on-after : (t : Told) (d : Delivery) (go : Machine → Delivery) → on (after (t ∷ []) d) go ≡ after (t ∷ []) (on d go)
