@@ -1,6 +1,6 @@
 -- However a job of any length is cut into pieces, the calls give what the whole-job reading gives of its first 4,294,967,295 bytes, and the last
 -- answer is 3 exactly where there are more.
-use Prim.Native.Nat.{ℕ, zero, suc, _+_, _-_, _≤_, _<_}
+use Prim.Native.Nat.{ℕ, zero, suc, zero-le, _+_, _-_, _≤_, _<_}
 use mathlib.Core.Bool.{Bool, true, false, cond, true≢false}
 use mathlib.Core.List.{List, [], _∷_, _++_}
 use mathlib.Core.Logic.{_↔_}
@@ -30,7 +30,30 @@ use Rattle.protocol.specs.Calls.{Feeding, feeding, heard, limit, opening
 use Rattle.protocol.specs.Protocol.{Delivery, after, answered, delivered, delivered-up-to, delivery, ends, joined, offer, on, room, used-up}
 use Rattle.protocol.proofs.Accepted.{Accepted, feeding-takes, opening-accepted}
 
+-- where all bytes fit, it is the delivery of the whole job
+pub all-fit : (n : ℕ) (read : List ℕ → Machine → Outcome) (job : List ℕ) (m : Machine) → length job ≤ n
+    → delivered-up-to n read job m ≡ delivered (read job m)
+unfolding delivered-up-to
+all-fit n read job m l = search (take-all, le-ltb)
+
+answer-of : (n l : ℕ) (t : Bool) → ltb n l ≡ t → (cond t JobFull Done ≡ JobFull ↔ n < l) × (cond t JobFull Done ≡ Done ↔ l ≤ n)
+answer-of n l true q =
+    ((λ _. ltb-true n l q, λ _. refl), (λ d. absurd (true≢false (sym (ap used-up d))), λ k. absurd (omega (arith, ltb-true n l q))))
+answer-of n l false q =
+    ((λ d. absurd (true≢false (ap used-up d)), λ k. absurd (omega (arith, ltb-false n l q))), (λ _. ltb-false n l q, λ _. refl))
+
+-- the answer is 3 exactly where there are more bytes than fit, and else 0
+pub last-answer : (n : ℕ) (read : List ℕ → Machine → Outcome) (job : List ℕ) (m : Machine)
+    → (delivered-up-to n read job m .answer ≡ JobFull ↔ n < length job) × (delivered-up-to n read job m .answer ≡ Done ↔ length job ≤ n)
+unfolding delivered-up-to
+last-answer n read job m = answer-of n (length job) (ltb n (length job)) refl
+
+ltb-add : (a n l : ℕ) (t : Bool) → ltb n l ≡ t → ltb (a + n) (a + l) ≡ t
+ltb-add a n l true q = lt-ltb (a + n) (a + l) (omega (arith, ltb-true n l q))
+ltb-add a n l false q = le-ltb (a + n) (a + l) (omega (arith, ltb-false n l q))
+
 module _ (e : Edition) (font : List ℕ) where
+  -- the bytes as far as there is room, one after the other
   abbrev up-to : ℕ → List ℕ → Machine → Delivery
   up-to n bs m = delivered-up-to n (run e font) bs m
 
@@ -48,10 +71,10 @@ module _ (e : Edition) (font : List ℕ) where
   has-run : (bs : List ℕ) (n : ℕ) (m : Machine) → Has (length bs + n) m → Has n (run e font bs m .machine)
   has-run bs n m h = record { ready = run-ready font bs (h .ready); left = omega (arith, h .left, run-counts e font bs m .1) }
 
-  -- no byte, no room, a byte that fits
+  -- With no byte, with no room, and with a byte that fits.
   no-byte : (n : ℕ) (m : Machine) → up-to n [] m ≡ ends Done m
   unfolding delivered-up-to run
-  no-byte n m = rw (take-nil {A = ℕ} n, le-ltb n 0 (omega arith))
+  no-byte n m = search (take-nil, le-ltb, zero-le)
 
   no-room : (b : ℕ) (bs : List ℕ) (m : Machine) → up-to 0 (b ∷ bs) m ≡ ends JobFull m
   unfolding delivered-up-to run
@@ -95,63 +118,40 @@ module _ (e : Edition) (font : List ℕ) where
       let k : n < length (xs ++ ys) = omega (arith, length-append xs ys) in
       (rw (lt-ltb n (length xs) l), rw (take-append-le n xs ys (omega arith), lt-ltb n (length (xs ++ ys)) k, lt-ltb n (length xs) l))
 
-  ltb-add : (a n l : ℕ) (t : Bool) → ltb n l ≡ t → ltb (a + n) (a + l) ≡ t
-  ltb-add a n l true q = lt-ltb (a + n) (a + l) (omega (arith, ltb-true n l q))
-  ltb-add a n l false q = le-ltb (a + n) (a + l) (omega (arith, ltb-false n l q))
-
   within : (xs ys : List ℕ) (n : ℕ) (m : Machine)
       → up-to (length xs + n) (xs ++ ys) m ≡ after (run e font xs m .told) (up-to n ys (run e font xs m .machine))
   unfolding delivered-up-to
   within xs ys n m =
       rw (take-append-add xs ys n, run-append e font xs (take n ys) m, length-append xs ys, ltb-add (length xs) n (length ys) _ refl)
 
--- where all bytes fit, it is the delivery of the whole job
-pub all-fit : (n : ℕ) (read : List ℕ → Machine → Outcome) (job : List ℕ) (m : Machine) → length job ≤ n
-    → delivered-up-to n read job m ≡ delivered (read job m)
-unfolding delivered-up-to
-all-fit n read job m l = rw (take-all n job l, le-ltb n (length job) l)
-
--- the answer is 3 exactly where more bytes are offered than fit, and else 0
-answer-of : (n l : ℕ) (t : Bool) → ltb n l ≡ t → (cond t JobFull Done ≡ JobFull ↔ n < l) × (cond t JobFull Done ≡ Done ↔ l ≤ n)
-answer-of n l true q =
-    ((λ _. ltb-true n l q, λ _. refl), (λ d. absurd (true≢false (sym (ap used-up d))), λ k. absurd (omega (arith, ltb-true n l q))))
-answer-of n l false q =
-    ((λ d. absurd (true≢false (ap used-up d)), λ k. absurd (omega (arith, ltb-false n l q))), (λ _. ltb-false n l q, λ _. refl))
-
-last-answer : (n : ℕ) (read : List ℕ → Machine → Outcome) (job : List ℕ) (m : Machine)
-    → (delivered-up-to n read job m .answer ≡ JobFull ↔ n < length job) × (delivered-up-to n read job m .answer ≡ Done ↔ length job ≤ n)
-unfolding delivered-up-to
-last-answer n read job m = answer-of n (length job) (ltb n (length job)) refl
-
-module _ (e : Edition) (font : List ℕ) where
-  piece-run : (piece bs : List ℕ) (next : Machine → Delivery) → ((n : ℕ) (m : Machine) → Has e font n m → next m ≡ up-to e font n bs m)
-      → (n : ℕ) (m : Machine) → Has e font n m → (t : Bool) → ltb n (length piece) ≡ t
-      → on (up-to e font n piece m) next ≡ up-to e font n (piece ++ bs) m
+  piece-run : (piece bs : List ℕ) (next : Machine → Delivery) → ((n : ℕ) (m : Machine) → Has n m → next m ≡ up-to n bs m)
+      → (n : ℕ) (m : Machine) → Has n m → (t : Bool) → ltb n (length piece) ≡ t
+      → on (up-to n piece m) next ≡ up-to n (piece ++ bs) m
   piece-run piece bs next k n m h true q =
-      let p = past e font piece bs n m (ltb-true n (length piece) q) in
+      let p = past piece bs n m (ltb-true n (length piece) q) in
       rw (p .1, p .0)
   piece-run piece bs next k n m h false q =
       let i : ℕ = n - length piece in
       let l : length piece ≤ n = ltb-false n (length piece) q in
       let s : n ≡ length piece + i = omega arith in
       rw (all-fit n (run e font) piece m l)
-      (ap (after (run e font piece m .told)) (k i _ (has-run e font piece i m (subst (λ (j : ℕ). Has e font j m) s h)))
-      ∙ sym (within e font piece bs i m)
-      ∙ ap (λ (j : ℕ). up-to e font j (piece ++ bs) m) (sym s))
+      (ap (after (run e font piece m .told)) (k i _ (has-run piece i m (subst (λ (j : ℕ). Has j m) s h)))
+      ∙ sym (within piece bs i m)
+      ∙ ap (λ (j : ℕ). up-to j (piece ++ bs) m) (sym s))
 
   module _ (sized : length font ≡ 2048) where
-    offer-run : (calls : ℕ) (piece : List ℕ) (n : ℕ) (m : Machine) → length piece < calls → Has e font n m
-        → offer e (feeding e font) calls piece m ≡ up-to e font n piece m
+    offer-run : (calls : ℕ) (piece : List ℕ) (n : ℕ) (m : Machine) → length piece < calls → Has n m
+        → offer e (feeding e font) calls piece m ≡ up-to n piece m
     unfolding offer
     offer-run zero piece n m l h = absurd (omega arith)
     offer-run (suc calls) piece n m l h =
         rw (feeding-takes (h .ready) font sized piece)
-        (call-run e font (offer e (feeding e font) calls) piece n m h (λ rest i x k w. offer-run calls rest i x (omega arith) w))
+        (call-run (offer e (feeding e font) calls) piece n m h (λ rest i x k w. offer-run calls rest i x (omega arith) w))
 
-    delivery-run : (pieces : List (List ℕ)) (n : ℕ) (m : Machine) → Has e font n m
-        → delivery e (feeding e font) pieces m ≡ up-to e font n (joined pieces) m
+    delivery-run : (pieces : List (List ℕ)) (n : ℕ) (m : Machine) → Has n m
+        → delivery e (feeding e font) pieces m ≡ up-to n (joined pieces) m
     unfolding delivery joined
-    delivery-run [] n m h = sym (no-byte e font n m)
+    delivery-run [] n m h = sym (no-byte n m)
     delivery-run (piece ∷ pieces) n m h =
         rw (offer-run (suc (length piece)) piece n m (omega arith) h)
         (piece-run piece (joined pieces) (delivery e (feeding e font) pieces) (delivery-run pieces) n m h (ltb n (length piece)) refl)
