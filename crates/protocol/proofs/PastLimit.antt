@@ -20,7 +20,7 @@ use Rattle.printer.specs.Bytes.{run, step}
 use Rattle.printer.specs.Commands.{reading}
 use Rattle.printer.specs.Machine.{Machine}
 use Rattle.printer.specs.Room.{Ready}
-use Rattle.printer.specs.Steps.{Outcome, Step, tell, tell-step}
+use Rattle.printer.specs.Steps.{Outcome, Step, form, note, tell, tell-step}
 use Rattle.printer.proofs.Appending.{run-append}
 use Rattle.printer.proofs.Keeping.{run-counts, step-counts, tell-printer}
 use Rattle.printer.proofs.Readings.{run-reading}
@@ -98,8 +98,8 @@ module _ (e : Edition) (font : List ℕ) where
         → caller (heard v m (take-bytes e font bs m)) (b ∷ bs) ≡ after (tell e v m .told) (up-to n bs (tell e v m .machine))
     unfolding heard answered tell
     heard-run b bs n event.Quiet m h k ih = ih
-    heard-run b bs n event.Finished m h k ih = rw (k bs n _ (omega arith) (has-tell event.Finished n m h))
-    heard-run b bs n (event.Noted f place) m h k ih = rw (k bs n _ (omega arith) h)
+    heard-run b bs n event.Finished m h k ih = ap (after (form (m .page) ∷ [])) (k bs n _ (omega arith) (has-tell event.Finished n m h))
+    heard-run b bs n (event.Noted f place) m h k ih = ap (after (note f place ∷ [])) (k bs n _ (omega arith) h)
 
     call-run : (bs : List ℕ) (n : ℕ) (m : Machine) → Has n m → GoesOn bs → caller (take-bytes e font bs m) bs ≡ up-to n bs m
     unfolding take-bytes tell-step answered
@@ -140,20 +140,21 @@ module _ (e : Edition) (font : List ℕ) where
       ∙ ap (λ (j : ℕ). up-to j (piece ++ bs) m) (sym s))
 
   module _ (sized : length font ≡ 2048) where
-    offer-run : (calls : ℕ) (piece : List ℕ) (n : ℕ) (m : Machine) → length piece < calls → Has n m
+    offer-run : (n calls : ℕ) (piece : List ℕ) (m : Machine) → length piece < calls → Has n m
         → offer e (feeding e font) calls piece m ≡ up-to n piece m
     unfolding offer
-    offer-run zero piece n m l h = absurd (omega arith)
-    offer-run (suc calls) piece n m l h =
+    offer-run n zero piece m l h = absurd (omega arith)
+    offer-run n (suc calls) piece m l h =
         rw (feeding-takes (h .ready) font sized piece)
-        (call-run (offer e (feeding e font) calls) piece n m h (λ rest i x k w. offer-run calls rest i x (omega arith) w))
+        (call-run (offer e (feeding e font) calls) piece n m h (λ rest i x k w. offer-run i calls rest x (omega arith) w))
 
     delivery-run : (pieces : List (List ℕ)) (n : ℕ) (m : Machine) → Has n m
         → delivery e (feeding e font) pieces m ≡ up-to n (joined pieces) m
     unfolding delivery joined
     delivery-run [] n m h = sym (no-byte n m)
     delivery-run (piece ∷ pieces) n m h =
-        rw (offer-run (suc (length piece)) piece n m (omega arith) h)
+        let l : length piece < suc (length piece) = omega arith in
+        rw (offer-run n)
         (piece-run piece (joined pieces) (delivery e (feeding e font) pieces) (delivery-run pieces) n m h (ltb n (length piece)) refl)
 
 -- from any machine that is ready and has nothing pending
