@@ -9,7 +9,7 @@ use Rattle.printer.specs.Tabs.{line-tabs, no-tabs, put-bit, with-tab, wo
 use Rattle.printer.specs.Sound.{form-sound, untabbed, tabs-sound, fresh-sound, plot-sound, sound}
 use Rattle.printer.specs.Closing.{close-line, close-command, closing}
 use Rattle.printer.specs.Steps.{tell, tell-step}
-use Rattle.printer.specs.Numbers.{note-number, told-report}
+use Rattle.printer.specs.Numbers.{close-report, note-number, told-report}
 use Rattle.printer.specs.Printing.{entered, print}
 use Rattle.printer.specs.Terminators.{first-tab, strike, newline, form-feed, carriage-return, tab-to, vertical-tab}
 use Rattle.printer.specs.Escapes.{tab, tab-here, clear-tabs, tab-item, in-turn, after-reset, reset, select, escape}
@@ -24,7 +24,7 @@ use Rattle.printer.specs.Table.{look-at, table, stated, found, Holds}
 pub cases : Holds
 unfolding lp2 lines-allowed spacing-allowed rows-per-line form-rows empty-line first-row line-of has-line fits word column small apart each
     well-formed all-well-formed cell or-in enter-narrow enter-wide underscore enter-glyph enter empty-store word-tabs line-tabs no-tabs put-bit
-    with-tab form-sound untabbed tabs-sound fresh-sound plot-sound sound close-line close-command closing tell tell-step note-number told-report
+    with-tab form-sound untabbed tabs-sound fresh-sound plot-sound sound close-line close-command closing tell tell-step note-number told-report close-report
     entered print first-tab strike newline form-feed carriage-return tab-to vertical-tab tab tab-here clear-tabs tab-item in-turn
     after-reset reset select escape plot plots plot-byte plot-escape stage total out-of-range replaced download prints text-byte alone first-byte text-escape
     second-byte tab-byte payload-byte act step run item items cut-tabs cut-reset cut-select cut-checksum cut-download cut-escape cut set-tabs

@@ -6,13 +6,11 @@ use mathlib.Core.Path.{_≡_}
 use lib.ListN.{drop, getD, replicate, take}
 use Rattle.sheet.specs.Edition.{lp2}
 use Rattle.glyph.specs.CapitalB.{capital-b}
-use Rattle.printer.specs.declared.Closing.{Closing}
-use Rattle.printer.specs.declared.Closing.the-variants.{Clean}
 use Rattle.printer.specs.Bytes.{run}
 use Rattle.printer.specs.Closing.{closing}
 use Rattle.printer.specs.Commands.{reading}
 use Rattle.printer.specs.Machine.{Machine, opened, with-head}
-use Rattle.printer.specs.Numbers.{Report, told-report}
+use Rattle.printer.specs.Numbers.{Report, close-report, plain, told-report}
 use Rattle.printer.specs.Steps.{Outcome}
 
 -- where to look at the machine that a job leaves
@@ -27,14 +25,14 @@ pub data Look : Type 0 where
 pub data Seen : Type 0 where
   number : ℕ → Seen
   bytes : List ℕ → Seen
-  answer : Closing → Seen
+  answer : Report → Seen
 
 unfoldable pub look-at : Look → Machine → Seen
 look-at row m = number (m .printer .head .row .0)
 look-at position m = number (m .printer .head .column)
 look-at (column c) m = number (getD (m .line) c 0)
 look-at (stored from count) m = bytes (take count (drop from (m .store)))
-look-at closed m = answer (closing lp2 (m .printer))
+look-at closed m = answer (close-report (closing lp2 (m .printer)))
 
 pub record Sight : Type 0 where
   pub look : Look
@@ -68,7 +66,7 @@ abbrev pub note-at : ℕ → ℕ → Report
 note-at n place = record { number = 2; values = n ∷ place ∷ [] }
 
 abbrev pub form-finished : Report
-form-finished = record { number = 1; values = [] }
+form-finished = plain 1
 
 -- the download of LP2's "B", with some checksum
 abbrev pub download-b : ℕ → List ℕ
@@ -78,7 +76,7 @@ download-b checksum = 0o033 ∷ 0o131 ∷ 0o000 ∷ 0o020 ∷ 0o014 ∷ 0o040 �
 unfoldable pub table : List Case
 table =
     -- A
-    from-top [] [] (sees closed (answer Clean) ∷ [])
+    from-top [] [] (sees closed (answer (plain 0)) ∷ [])
     -- B
     ∷ from-top (replicate 133 0x41) (note-at 44 132 ∷ []) []
     -- C

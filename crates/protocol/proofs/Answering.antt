@@ -15,6 +15,7 @@ use Rattle.printer.specs.declared.Closing.the-variants as closing
 use Rattle.printer.specs.declared.Event.{Event}
 use Rattle.printer.specs.declared.Event.the-variants as event
 use Rattle.printer.specs.Bytes.{step}
+use Rattle.printer.specs.Numbers.{close-report, plain}
 use Rattle.printer.specs.Machine.{Machine, shut, with-printer}
 use Rattle.printer.specs.Sound.{form-sound, sound}
 use Rattle.printer.specs.Steps.{Step, tell, tell-step}
@@ -25,7 +26,7 @@ use Rattle.protocol.specs.declared.Fit.{Fit}
 use Rattle.protocol.specs.declared.Fit.the-variants.{Right, Wrong}
 use Rattle.protocol.specs.declared.Lent.{Lent}
 use Rattle.protocol.specs.declared.Lent.the-variants.{Page, LineStore, Staging, DownloadStore, Font}
-use Rattle.protocol.specs.Answers.{close-report, lent-number, refusal, report}
+use Rattle.protocol.specs.Answers.{lent-number, refusal, report}
 use Rattle.protocol.specs.Protocol.{used-up}
 use Rattle.protocol.specs.Calls.{Feeding, Opening, feed-fitted, feeding, fit, heard, limit, open-fitted, opening, stopped, take-bytes, unopened}
 

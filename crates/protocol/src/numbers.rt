@@ -1,7 +1,7 @@
 // Document 01's numbers: of the answers, of the notes, and of what closing says.
 ghost use mathlib.Core.Path.{_≡_};
-ghost use Rattle.printer.specs.Numbers.{note-number};
-ghost use Rattle.protocol.specs.Answers.{close-place, close-report, lent-number, noted-number, noted-place, refusal, report};
+ghost use Rattle.printer.specs.Numbers.{close-report, note-number, value};
+ghost use Rattle.protocol.specs.Answers.{lent-number, refusal, report};
 use crate::Answer;
 use crate::Lent;
 use printer::Closing;
@@ -57,7 +57,7 @@ pub fn answer_number(answer: Answer) -> u64
 
 // The number of the note that an answer has, 0 where it has none.
 pub fn noted_number(answer: Answer) -> u64
-    ensures { λ r. ⌜ r ≡ noted-number answer ⌝ }
+    ensures { λ r. ⌜ r ≡ value 0 (report answer) ⌝ }
 {
     match answer {
         Answer::Noted(fault, _) => note_number(fault),
@@ -73,7 +73,7 @@ pub fn noted_number(answer: Answer) -> u64
 
 // The place of the note that an answer has, 0 where it has none.
 pub fn noted_place(answer: Answer) -> u64
-    ensures { λ r. ⌜ r ≡ noted-place answer ⌝ }
+    ensures { λ r. ⌜ r ≡ value 1 (report answer) ⌝ }
 {
     match answer {
         Answer::Noted(_, place) => place as u64,
@@ -117,7 +117,7 @@ pub fn close_number(closing: Closing) -> u64
 
 // The place of the command that closing finds unfinished, 0 where it finds none.
 pub fn close_place(closing: Closing) -> u64
-    ensures { λ r. ⌜ r ≡ close-place closing ⌝ }
+    ensures { λ r. ⌜ r ≡ value 0 (close-report closing) ⌝ }
 {
     match closing {
         Closing::Unsound => 0,
