@@ -1,4 +1,4 @@
--- What is true of glyphs: which are well formed, what entering a character leaves, and LP2's "B" as an example.
+-- What is true of glyphs: which are well formed, what entering a character leaves, that memory can hold it, and LP2's "B" as an example.
 pub mod Lengths
 pub mod Each
 pub mod Turns
@@ -6,3 +6,4 @@ pub mod Neighbours
 pub mod WellFormed
 pub mod Cells
 pub mod CapitalB
+pub mod Held

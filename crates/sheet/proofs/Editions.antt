@@ -1,5 +1,5 @@
 -- What a proper edition keeps to, and the numbers of `lp2`.
-use Prim.Native.Nat.{ℕ, _*_, _≤_, _<_}
+use Prim.Native.Nat.{ℕ, _*_, _^_, _≤_, _<_}
 use mathlib.Core.Path.{_≡_, refl, sym, ap}
 use mathlib.Core.Bool.{Bool, true, false, cond, _||_, true≢false}
 use native.Mathlib.Omega.{arith}
@@ -30,6 +30,16 @@ lp2-on-row Compressed c h = omega arith
 -- `lp2` is proper
 pub lp2-proper : Proper lp2
 lp2-proper = record { wide = lp2-wide; on-row = lp2-on-row }
+
+-- The rows of the longest form, twelve a line, and the columns of a line can be counted in a usize.
+pub record Countable (e : Edition) : Type 0 where
+  pub rows : e .longest * 12 < 2 ^ 64
+  pub columns : (p : Pitch) → e .width p < 2 ^ 64
+
+-- `lp2` is countable
+pub lp2-countable : Countable lp2
+unfolding lp2
+lp2-countable = record { rows = omega arith; columns = λ p. omega (arith, lp2-wide p) }
 
 -- a row has 6,600 grid positions
 pub lp2-row : 8 * lp2 .bytes ≡ 6600
