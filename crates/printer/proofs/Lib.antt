@@ -11,6 +11,7 @@ pub mod Soundness
 pub mod Ready
 pub mod SoundTabs
 pub mod StaysSound
+pub mod StaysHeld
 pub mod Pages
 pub mod NotObeyed
 pub mod Dots

@@ -1,9 +1,10 @@
--- The printer: its state and memory, what is sound, the rules of document 01 command by command, and its two readings: byte by byte, and the
--- whole job as a list of commands.
+-- The printer: its state and memory, what is sound, what memory can hold, the rules of document 01 command by command, and its two readings:
+-- byte by byte, and the whole job as a list of commands.
 pub mod Tabs
 pub mod Machine
 pub mod Sound
 pub mod Facts
+pub mod Held
 pub mod Closing
 pub mod Numbers
 pub mod Steps
