@@ -2,3 +2,4 @@
 pub mod Underway
 pub mod Offering
 pub mod CodeCutting
+pub mod CodeDots
