@@ -1,5 +1,5 @@
 -- Demand 3 for the code: what opens and feeds as the contracts of `open` and `feed` say gives, however a job is cut, what the whole-job reading gives.
--- A contract speaks of no arguments but those that memory can hold, and no more is asked here.
+-- A contract is about arguments that memory can hold, which is what their types say (`HeldTypes` in printer); no more is asked here.
 use Prim.Native.Nat.{ℕ, _^_, _≤_, _<_}
 use mathlib.Core.List.{List}
 use mathlib.Core.Path.{_≡_, ap, sym, _∙_}

@@ -12,6 +12,7 @@ pub mod Ready
 pub mod SoundTabs
 pub mod StaysSound
 pub mod StaysHeld
+pub mod HeldTypes
 pub mod Pages
 pub mod NotObeyed
 pub mod Dots

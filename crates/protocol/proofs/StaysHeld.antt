@@ -63,7 +63,7 @@ module _ {e : Edition} (countable : Countable e) (font : List ℕ) where
 
   step-ongoing : (b : ℕ) (m : Machine) → b < 256 → m .printer .job < limit → Ongoing m → Ongoing (step e font b m .machine)
   step-ongoing b m byte room h =
-      record { ready = step-ready (h .ready) font b; held = step-held (h .ready) (h .held) countable font b room byte }
+      record { ready = step-ready (h .ready) font b; held = step-held (h .ready) (h .held) countable font b (omega arith) byte }
 
   heard-ongoing : (v : Event) (x : Machine) (f : Feeding) → Ongoing x → Ongoing (f .machine) → Ongoing (heard v x f .machine)
   unfolding heard
