@@ -42,7 +42,7 @@ extern "C" {
 #define CLOCKTOAD_JOB_LIMIT UINT64_C(4294967295)
 
 /*
- * Answers of opening and feeding. Closing uses CLOCKTOAD_UNSOUND and the two house numbers too.
+ * Answers of opening and feeding. Closing uses CLOCKTOAD_UNSOUND and CLOCKTOAD_REPORT_LENGTH too.
  * Document 02 retired 17: no call answers it, and it gets no other meaning.
  */
 enum clocktoad_answer {
@@ -51,7 +51,7 @@ enum clocktoad_answer {
     CLOCKTOAD_FORM_FINISHED  = 1,  /* the page is complete; lend a blank one, offer the rest */
     CLOCKTOAD_NOTE           = 2,  /* the report has the note's number and place; offer the rest */
     CLOCKTOAD_JOB_FULL       = 3,  /* the job has CLOCKTOAD_JOB_LIMIT bytes; the rest can't be taken */
-    CLOCKTOAD_UNSOUND        = 10, /* the words lent as state hold no sound state */
+    CLOCKTOAD_UNSOUND        = 10, /* the words lent as state hold no sound state, or are too few or too many to be one */
     CLOCKTOAD_BAD_PAGE       = 11, /* wrong length of the page, */
     CLOCKTOAD_BAD_LINE       = 12, /* of the line store, */
     CLOCKTOAD_BAD_STAGING    = 13, /* of the staging, */
@@ -59,11 +59,11 @@ enum clocktoad_answer {
     CLOCKTOAD_BAD_FONT       = 15, /* of the font */
     CLOCKTOAD_BAD_LINES      = 18, /* opening: lines not 1 to 99 */
     CLOCKTOAD_BAD_SPACING    = 19, /* opening: spacing not 6 or 8 */
-    CLOCKTOAD_STATE_LENGTH   = 21, /* house: state_len is not CLOCKTOAD_STATE_WORDS */
-    CLOCKTOAD_REPORT_LENGTH  = 22  /* house: report_len is not CLOCKTOAD_REPORT_WORDS */
+    CLOCKTOAD_STATE_LENGTH   = 21, /* house, opening: state_len is not CLOCKTOAD_STATE_WORDS */
+    CLOCKTOAD_REPORT_LENGTH  = 22  /* house, feeding and closing: report_len is not CLOCKTOAD_REPORT_WORDS */
 };
 
-/* Answers of closing, with CLOCKTOAD_UNSOUND and the two house numbers. */
+/* Answers of closing, with CLOCKTOAD_UNSOUND and CLOCKTOAD_REPORT_LENGTH. */
 enum clocktoad_closing {
     CLOCKTOAD_CLEAN              = 0, /* nothing is left over */
     CLOCKTOAD_LINE_UNPRINTED     = 1, /* the last line had no terminator */
@@ -90,10 +90,11 @@ enum clocktoad_report {
 
 /*
  * Opens a job on a form of `lines` lines (1 to 99) at `spacing` lines an inch (6 or 8).
- * Tested in this order: 21, 18, 19, 11 to 15; else 0.
+ * Tested in this order: 18, 19, 11 to 15, 21; else 0.
  * On 0 the page, line store, staging and download store are zeroed and the state is that of a
  * job of no bytes. On 18, 19 and 11 to 15 the state becomes the shut state, which feeding and
- * closing answer with 10, and nothing else is written. On 21 nothing is written.
+ * closing answer with 10, and nothing else is written. On 21 nothing is written, and a state of
+ * the wrong length is not written on any answer.
  * The font is never written; it may change between calls.
  */
 uint64_t clocktoad_open(uint64_t lines, uint64_t spacing,
@@ -107,7 +108,8 @@ uint64_t clocktoad_open(uint64_t lines, uint64_t spacing,
 /*
  * Reads the next bytes of the job, up to the first form finished, the first note, or the end of
  * the piece. The caller offers the bytes from report[0] on again, before any others.
- * Tested in this order: 21, 22, 10, 11 to 15; none of these writes anything.
+ * Tested in this order: 10, also for a state of the wrong length, 11 to 15, 22; none of these
+ * writes anything.
  * Else 0, 1, 2 or 3, and the report is written. A finished page is not cleared.
  * The slices must hold what the call before left in them, but for the page after answer 1.
  */
@@ -122,7 +124,8 @@ uint64_t clocktoad_feed(uint64_t *state, size_t state_len,
 
 /*
  * Tells how the job would end here: an enum clocktoad_closing, and the report is written.
- * Tested in this order: 21, 22, 10; none of these writes anything. The state is only read.
+ * Tested in this order: 10, also for a state of the wrong length, 22; neither writes anything.
+ * The state is only read.
  */
 uint64_t clocktoad_close(const uint64_t *state, size_t state_len,
                          uint64_t *report, size_t report_len);
