@@ -1,5 +1,5 @@
 /*
- * Tests of the library through its C interface. What is expected is taken from document 01.
+ * Tests of the library through its C interface. What is expected is taken from document 01 and docs/DECISIONS.md.
  * A failed check prints where and what, and ends the program with status 1.
  */
 #include "clocktoad.h"
@@ -17,6 +17,7 @@ enum {
     ROW = CLOCKTOAD_ROW_BYTES,
     PAGE = 66 * 12 * ROW,      /* the form of most tests */
     SMALL_PAGE = 3 * 12 * ROW, /* the form of the cutting tests */
+    MUCH = 16,
     CUT_JOB = 12,
     EVENTS = 16
 };
@@ -48,10 +49,10 @@ static void equal(uint64_t got, uint64_t want, const char *file, int line, const
 #define CHECK(condition) check((condition), __FILE__, __LINE__, #condition)
 #define EQUAL(got, want) equal((got), (want), __FILE__, __LINE__, #got " == " #want)
 
-/* All that a job lends. Each slice has twice the room it needs, so that a too long one is real memory. */
+/* All that a job lends. Each slice has more room than it needs, so that a too long one is real memory. */
 struct lent {
-    uint64_t state[2 * WORDS];
-    uint64_t report[2 * REPORT];
+    uint64_t state[MUCH * WORDS];
+    uint64_t report[MUCH * REPORT];
     uint16_t line[2 * LINE];
     uint8_t staging[2 * STORE];
     uint8_t store[2 * STORE];
@@ -59,9 +60,18 @@ struct lent {
     uint8_t page[2 * PAGE];
 };
 
-struct lengths {
+/* The numbers of a call: an opening's form, and the lengths of the slices. */
+struct numbers {
+    uint64_t lines, spacing;
     size_t state, page, line, staging, store, font, report;
 };
+
+struct text {
+    const char *bytes;
+    size_t length;
+};
+
+#define TEXT(bytes) { (bytes), sizeof(bytes) - 1 }
 
 struct event {
     uint64_t answer, number, place; /* of a finished form: number 0, the finishing byte's place */
@@ -70,7 +80,7 @@ struct event {
 /* A job being fed, and what it gave so far. */
 struct job {
     struct lent m;
-    struct lengths n;
+    struct numbers n;
     uint64_t fed;
     size_t events;
     struct event event[EVENTS];
@@ -81,25 +91,26 @@ struct job {
 static struct job the_job, spare_job;
 static struct lent before;
 
-static struct lengths exact(uint64_t lines, uint64_t spacing)
+static struct numbers exact(uint64_t lines, uint64_t spacing)
 {
-    struct lengths n = { WORDS, CLOCKTOAD_PAGE_BYTES(lines, spacing), LINE, STORE, STORE, STORE, REPORT };
+    size_t page = CLOCKTOAD_PAGE_BYTES(lines, spacing);
+    struct numbers n = { lines, spacing, WORDS, page, LINE, STORE, STORE, STORE, REPORT };
     return n;
 }
 
-static uint64_t open_with(struct lent *m, uint64_t lines, uint64_t spacing, struct lengths n)
+static uint64_t open_with(struct lent *m, struct numbers n)
 {
-    return clocktoad_open(lines, spacing, m->state, n.state, m->page, n.page, m->line, n.line,
+    return clocktoad_open(n.lines, n.spacing, m->state, n.state, m->page, n.page, m->line, n.line,
                           m->staging, n.staging, m->store, n.store, m->font, n.font);
 }
 
-static uint64_t feed_with(struct lent *m, struct lengths n, const uint8_t *piece, size_t length)
+static uint64_t feed_with(struct lent *m, struct numbers n, const uint8_t *piece, size_t length)
 {
     return clocktoad_feed(m->state, n.state, m->page, n.page, m->line, n.line, m->staging, n.staging,
                           m->store, n.store, m->font, n.font, piece, length, m->report, n.report);
 }
 
-static uint64_t close_with(struct lent *m, struct lengths n)
+static uint64_t close_with(struct lent *m, struct numbers n)
 {
     return clocktoad_close(m->state, n.state, m->report, n.report);
 }
@@ -125,6 +136,8 @@ static void set_glyph(uint8_t *font, unsigned code, const uint16_t word[8])
 static const uint16_t glyph_a[8] = { 0xFFFF, 0xFE01, 0x0100, 0x0002, 0x0080, 0x0204, 0x0040, 0x8008 };
 static const uint16_t columns_a[7] = { 0x001, 0x100, 0x002, 0x080, 0x004, 0x040, 0x008 };
 
+#define FILL UINT64_C(0xA5A5A5A5A5A5A5A5)
+
 /* Opens over memory full of other bytes, with a font of zeros. */
 static void open_job(struct job *j, uint64_t lines, uint64_t spacing)
 {
@@ -133,7 +146,7 @@ static void open_job(struct job *j, uint64_t lines, uint64_t spacing)
     memset(&j->m, 0xA5, offsetof(struct lent, page));
     memset(j->m.page, 0xA5, j->n.page + 64);
     memset(j->m.font, 0, sizeof j->m.font);
-    EQUAL(open_with(&j->m, lines, spacing, j->n), CLOCKTOAD_OPENED);
+    EQUAL(open_with(&j->m, j->n), CLOCKTOAD_OPENED);
 }
 
 /* Opening zeroed the four stores, and wrote nothing past any of them nor in the report. */
@@ -144,7 +157,7 @@ static void opened(const struct job *j)
     CHECK(all_zero(m->line, sizeof m->line / 2) && m->line[LINE] == 0xA5A5);
     CHECK(all_zero(m->staging, STORE) && m->staging[STORE] == 0xA5);
     CHECK(all_zero(m->store, STORE) && m->store[STORE] == 0xA5);
-    CHECK(m->state[WORDS] == UINT64_C(0xA5A5A5A5A5A5A5A5) && m->report[0] == UINT64_C(0xA5A5A5A5A5A5A5A5));
+    CHECK(m->state[WORDS] == FILL && m->report[0] == FILL);
     CHECK(all_zero(m->font, sizeof m->font));
 }
 
@@ -394,149 +407,162 @@ static void sizes(void)
     EQUAL(clocktoad_page_bytes(66, (UINT64_C(1) << 32) + 6), 0);
 }
 
-/* A refused call: all lent memory but the state of a refused opening is as it was. */
-static void unchanged(const struct lent *m, bool with_state)
+/* The bytes that a call on this job's form may be lent: of the page, twice what it needs. */
+static size_t lent_bytes(const struct job *j) { return offsetof(struct lent, page) + 2 * j->n.page; }
+
+static void remember(const struct job *j) { memcpy(&before, &j->m, lent_bytes(j)); }
+
+static void unchanged(const struct job *j) { CHECK(memcmp(&j->m, &before, lent_bytes(j)) == 0); }
+
+typedef void refusal(struct job *j, struct numbers n, uint64_t answer);
+
+/* Also of pieces that would finish a form, give a note, or drop the line and zero the download store. */
+static void refuse_feed(struct job *j, struct numbers n, uint64_t answer)
 {
-    if (with_state)
-        CHECK(memcmp(m->state, before.state, sizeof m->state) == 0);
-    CHECK(memcmp(m->report, before.report, sizeof *m - offsetof(struct lent, report)) == 0);
+    static const struct text piece[] = { TEXT(""), TEXT("A\n\f"), TEXT("\f"), TEXT("\200"), TEXT("\033c\000") };
+    remember(j);
+    for (size_t k = 0; k < sizeof piece / sizeof *piece; k++) {
+        EQUAL(feed_with(&j->m, n, (const uint8_t *)piece[k].bytes, piece[k].length), answer);
+        unchanged(j);
+    }
 }
 
-static void refuse_feed(struct lent *m, struct lengths n, uint64_t answer)
+static void refuse_close(struct job *j, struct numbers n, uint64_t answer)
 {
-    memcpy(&before, m, sizeof before);
-    EQUAL(feed_with(m, n, (const uint8_t *)"A\n\f", 3), answer);
-    unchanged(m, true);
-    EQUAL(feed_with(m, n, (const uint8_t *)"", 0), answer);
-    unchanged(m, true);
+    remember(j);
+    EQUAL(close_with(&j->m, n), answer);
+    unchanged(j);
 }
 
-static void refuse_close(struct lent *m, struct lengths n, uint64_t answer)
-{
-    memcpy(&before, m, sizeof before);
-    EQUAL(close_with(m, n), answer);
-    unchanged(m, true);
-}
-
-/* On 18, 19 and 11 to 15 the state is shut, the same whatever it was before. */
-static void refuse_open(struct lent *m, uint64_t lines, uint64_t spacing, struct lengths n, uint64_t answer)
+/* The shut state: a job's at opening, but for the numbers of the form, which are 0. */
+static const uint64_t *shut_words(void)
 {
     static uint64_t shut[WORDS];
-    static bool shut_known;
-    memcpy(&before, m, sizeof before);
-    EQUAL(open_with(m, lines, spacing, n), answer);
-    unchanged(m, answer == CLOCKTOAD_STATE_LENGTH);
-    if (answer == CLOCKTOAD_STATE_LENGTH)
-        return;
-    CHECK(memcmp(m->state + WORDS, before.state + WORDS, WORDS * sizeof(uint64_t)) == 0);
-    if (!shut_known)
-        memcpy(shut, m->state, sizeof shut);
-    shut_known = true;
-    CHECK(memcmp(shut, m->state, sizeof shut) == 0);
-    refuse_feed(m, exact(66, 6), CLOCKTOAD_UNSOUND);
-    refuse_close(m, exact(66, 6), CLOCKTOAD_UNSOUND);
-    memcpy(m->state, before.state, sizeof m->state);
+    static bool known;
+    struct job *j = &spare_job;
+    if (known)
+        return shut;
+    known = true;
+    open_job(j, 1, 8);
+    memcpy(shut, j->m.state, sizeof shut);
+    open_job(j, 2, 6);
     for (int k = 0; k < WORDS; k++)
-        m->state[k] = m->state[k] * 5 + 1;
+        if (shut[k] != j->m.state[k])
+            shut[k] = 0;
+    return shut;
 }
 
-/* Makes the slice of that answer's number wrong, in one of a few ways. */
-static void spoil(struct lengths *n, unsigned answer, unsigned way)
+/* A state of its length is shut, and then put back as it was; all else is not written. */
+static void refuse_open(struct job *j, struct numbers n, uint64_t answer)
 {
-    static const size_t page[] = { 0, PAGE - 1, PAGE + 1, 825, 66 * 9 * ROW, 2 * PAGE };
-    static const size_t line[] = { 0, LINE - 1, LINE + 1, 1320, LINE / 2, 2 * LINE };
-    static const size_t store[] = { 0, STORE - 1, STORE + 1, 16, STORE / 2, 2 * STORE };
-    static const size_t word[] = { 0, WORDS - 1, WORDS + 1, 1, WORDS / 2, 2 * WORDS };
-    static const size_t report[] = { 0, REPORT - 1, REPORT + 1, 1, REPORT / 2, 2 * REPORT };
+    const uint64_t *shut = shut_words();
+    remember(j);
+    EQUAL(open_with(&j->m, n), answer);
+    if (n.state == WORDS) {
+        CHECK(memcmp(j->m.state, shut, WORDS * sizeof *shut) == 0);
+        memcpy(j->m.state, before.state, WORDS * sizeof *shut);
+    }
+    unchanged(j);
+}
+
+enum { WAYS = 7 };
+
+/* Makes what that answer is about wrong, in one of a few ways; it was right, for a form at 6 an inch. */
+static void spoil(struct numbers *n, unsigned answer, unsigned way)
+{
+    const uint64_t wide = UINT64_C(1) << 32;
+    const uint64_t lines[WAYS] = { 0, 100, 255, 256 + n->lines, 65536 + n->lines, wide + n->lines, UINT64_MAX };
+    const uint64_t spacing[WAYS] = { 0, 5, 7, 9, 256 + n->spacing, wide + n->spacing, UINT64_MAX };
+    const size_t page[WAYS] = { 0, n->page - 1, n->page + 1, 1, ROW, n->page / 12 * 9, 2 * n->page };
+    static const size_t line[WAYS] = { 0, LINE - 1, LINE + 1, 1, 1320, LINE / 2, 2 * LINE };
+    static const size_t store[WAYS] = { 0, STORE - 1, STORE + 1, 1, 16, STORE / 2, 2 * STORE };
+    static const size_t state[WAYS] = { 0, WORDS - 1, WORDS + 1, 1, REPORT, WORDS / 2, MUCH * WORDS };
+    static const size_t report[WAYS] = { 0, REPORT - 1, REPORT + 1, 1, REPORT / 2, WORDS, MUCH * REPORT };
     switch (answer) {
+    case CLOCKTOAD_BAD_LINES: n->lines = lines[way]; break;
+    case CLOCKTOAD_BAD_SPACING: n->spacing = spacing[way]; break;
     case CLOCKTOAD_BAD_PAGE: n->page = page[way]; break;
     case CLOCKTOAD_BAD_LINE: n->line = line[way]; break;
     case CLOCKTOAD_BAD_STAGING: n->staging = store[way]; break;
     case CLOCKTOAD_BAD_STORE: n->store = store[way]; break;
     case CLOCKTOAD_BAD_FONT: n->font = store[way]; break;
-    case CLOCKTOAD_STATE_LENGTH: n->state = word[way]; break;
+    case CLOCKTOAD_UNSOUND:
+    case CLOCKTOAD_STATE_LENGTH: n->state = state[way]; break;
     case CLOCKTOAD_REPORT_LENGTH: n->report = report[way]; break;
     default: abort();
     }
 }
 
-enum { WAYS = 6 };
+enum { OPENING = 8, FEEDING = 7, CLOSING = 2 };
+static const unsigned opening_order[OPENING] = { 18, 19, 11, 12, 13, 14, 15, 21 };
+static const unsigned feeding_order[FEEDING] = { 10, 11, 12, 13, 14, 15, 22 };
+static const unsigned closing_order[CLOSING] = { 10, 22 };
+
+/* Each fault alone, with each later one and with all later ones: the first of them is answered. */
+static void refuse_in_order(struct job *j, const unsigned *order, size_t count, refusal *refuse)
+{
+    for (size_t first = 0; first < count; first++)
+        for (unsigned way = 0; way < WAYS; way++) {
+            struct numbers one = j->n, all;
+            spoil(&one, order[first], way);
+            refuse(j, one, order[first]);
+            all = one;
+            for (size_t second = first + 1; second < count; second++) {
+                spoil(&all, order[second], way);
+                for (unsigned other = 0; other < WAYS; other++) {
+                    struct numbers two = one;
+                    spoil(&two, order[second], other);
+                    refuse(j, two, order[first]);
+                }
+            }
+            refuse(j, all, order[first]);
+        }
+}
+
+/* Twenty words that are no sound state: 10, with nothing else wrong, with one fault, and with all but the length. */
+static void refuse_state(struct job *j, unsigned turn)
+{
+    struct numbers one = j->n, all = j->n;
+    unsigned way = turn / FEEDING % WAYS;
+    spoil(&one, feeding_order[turn % FEEDING], way);
+    for (size_t k = 1; k < FEEDING; k++)
+        spoil(&all, feeding_order[k], way);
+    const struct numbers wrong[] = { j->n, one, all };
+    for (size_t k = 0; k < 3; k++) {
+        refuse_feed(j, wrong[k], CLOCKTOAD_UNSOUND);
+        refuse_close(j, wrong[k], CLOCKTOAD_UNSOUND);
+    }
+}
+
+/* The report alone is wrong. */
+static void refuse_report(struct job *j)
+{
+    for (unsigned way = 0; way < WAYS; way++) {
+        struct numbers n = j->n;
+        spoil(&n, CLOCKTOAD_REPORT_LENGTH, way);
+        refuse_feed(j, n, CLOCKTOAD_REPORT_LENGTH);
+        refuse_close(j, n, CLOCKTOAD_REPORT_LENGTH);
+    }
+}
 
 /* An open job whose lent memory is full of other bytes, as a caller may do. */
-static struct job *strange_job(void)
+static struct job *strange_job(const char *sent)
 {
     struct job *j = &the_job;
-    open_66();
-    SEND(j, "A");
-    uint8_t *byte = (uint8_t *)j->m.report;
-    for (size_t k = 0; k < sizeof j->m - offsetof(struct lent, report); k++)
+    open_job(j, 3, 6);
+    send(j, sent, strlen(sent));
+    uint8_t *byte = (uint8_t *)&j->m;
+    for (size_t k = WORDS * sizeof(uint64_t); k < lent_bytes(j); k++)
         byte[k] = (uint8_t)(k * 7 + 3);
     return j;
 }
 
-static void refused_lengths_feeding(void)
+static void every_form(void)
 {
-    struct job *j = strange_job();
-    static const unsigned order[] = { 21, 22, 11, 12, 13, 14, 15 };
-    for (unsigned first = 0; first < 7; first++)
-        for (unsigned way = 0; way < WAYS; way++) {
-            struct lengths n = exact(66, 6);
-            spoil(&n, order[first], way);
-            refuse_feed(&j->m, n, order[first]);
-            if (first < 2)
-                refuse_close(&j->m, n, order[first]);
-        }
-    for (unsigned first = 0; first < 7; first++)
-        for (unsigned second = first + 1; second < 7; second++) {
-            struct lengths n = exact(66, 6);
-            spoil(&n, order[first], second % WAYS);
-            spoil(&n, order[second], first % WAYS);
-            refuse_feed(&j->m, n, order[first]);
-        }
-    struct lengths both = exact(66, 6);
-    both.state = both.report = 0;
-    refuse_close(&j->m, both, CLOCKTOAD_STATE_LENGTH);
-    EQUAL(feed(j, "", 0), CLOCKTOAD_USED_UP);
-    closes(j, CLOCKTOAD_LINE_UNPRINTED, 0);
-}
-
-static void refused_lengths_opening(void)
-{
-    struct job *j = strange_job();
-    static const unsigned order[] = { 21, 11, 12, 13, 14, 15 };
-    for (unsigned first = 0; first < 6; first++)
-        for (unsigned way = 0; way < WAYS; way++) {
-            struct lengths n = exact(66, 6);
-            spoil(&n, order[first], way);
-            refuse_open(&j->m, 66, 6, n, order[first]);
-            for (unsigned second = first + 1; second < 6; second++) {
-                spoil(&n, order[second], way);
-                refuse_open(&j->m, 66, 6, n, order[first]);
-            }
-        }
-    refuse_open(&j->m, 66, 8, exact(66, 6), CLOCKTOAD_BAD_PAGE);
-    refuse_open(&j->m, 65, 6, exact(66, 6), CLOCKTOAD_BAD_PAGE);
-}
-
-static void refused_forms(void)
-{
-    struct job *j = strange_job();
-    static const uint64_t lines[] = { 0, 100, 255, 256 + 66, (UINT64_C(1) << 32) + 66, UINT64_MAX };
-    static const uint64_t spacing[] = { 0, 5, 7, 9, 256 + 6, (UINT64_C(1) << 32) + 6, UINT64_MAX };
-    struct lengths bad = { WORDS, 1, 1, 1, 1, 1, REPORT };
-    for (size_t k = 0; k < sizeof lines / sizeof *lines; k++) {
-        refuse_open(&j->m, lines[k], 6, exact(66, 6), CLOCKTOAD_BAD_LINES);
-        refuse_open(&j->m, lines[k], 7, bad, CLOCKTOAD_BAD_LINES);
-    }
-    for (size_t k = 0; k < sizeof spacing / sizeof *spacing; k++) {
-        refuse_open(&j->m, 66, spacing[k], exact(66, 6), CLOCKTOAD_BAD_SPACING);
-        refuse_open(&j->m, 66, spacing[k], bad, CLOCKTOAD_BAD_SPACING);
-    }
-    bad.state = WORDS + 1;
-    refuse_open(&j->m, 0, 7, bad, CLOCKTOAD_STATE_LENGTH);
-    for (uint64_t l = 1; l <= 99; l++)
-        for (uint64_t s = 6; s <= 8; s += 2) {
-            open_job(j, l, s);
+    struct job *j = &the_job;
+    for (uint64_t lines = 1; lines <= 99; lines++)
+        for (uint64_t spacing = 6; spacing <= 8; spacing += 2) {
+            open_job(j, lines, spacing);
             opened(j);
             closes(j, CLOCKTOAD_CLEAN, 0);
         }
@@ -552,30 +578,75 @@ static uint64_t random_word(void)
     return seed;
 }
 
-static void refused_states(void)
+static void random_words(uint64_t *state)
 {
-    struct job *j = strange_job();
-    struct lengths bad = { WORDS, 1, 1, 1, 1, 1, REPORT };
-    for (int k = 0; k < 100; k++) {
-        for (int w = 0; w < WORDS; w++)
-            j->m.state[w] = k == 0 ? UINT64_MAX : k == 1 ? 0 : random_word();
-        refuse_feed(&j->m, k % 2 ? j->n : bad, CLOCKTOAD_UNSOUND);
-        refuse_close(&j->m, j->n, CLOCKTOAD_UNSOUND);
-    }
-    bad.report = 3;
-    refuse_feed(&j->m, bad, CLOCKTOAD_REPORT_LENGTH);
-    refuse_close(&j->m, bad, CLOCKTOAD_REPORT_LENGTH);
-    bad.state = 13;
-    refuse_feed(&j->m, bad, CLOCKTOAD_STATE_LENGTH);
-    refuse_close(&j->m, bad, CLOCKTOAD_STATE_LENGTH);
+    for (int k = 0; k < WORDS; k++)
+        state[k] = random_word();
 }
 
-/* The one word of the state that went from `was` to `is`, or -1. */
-static int moved_word(const uint64_t *was_state, const uint64_t *is_state, uint64_t was, uint64_t is)
+/* Whatever the state was. A page is tested against the form that is asked for. */
+static void refused_openings(void)
+{
+    struct job *j = strange_job("A");
+    refuse_in_order(j, opening_order, OPENING, refuse_open);
+    closes(j, CLOCKTOAD_LINE_UNPRINTED, 0);
+    random_words(j->m.state);
+    refuse_in_order(j, opening_order, OPENING, refuse_open);
+    struct numbers n = j->n;
+    n.spacing = 8;
+    refuse_open(j, n, CLOCKTOAD_BAD_PAGE);
+    n = j->n;
+    n.lines--;
+    refuse_open(j, n, CLOCKTOAD_BAD_PAGE);
+}
+
+static void refused_feedings(void)
+{
+    static const char *const sent[] = { "", "A", "\033" }; /* each at the number of its closing */
+    for (uint64_t closing = 0; closing < 3; closing++) {
+        struct job *j = strange_job(sent[closing]);
+        refuse_in_order(j, feeding_order, FEEDING, refuse_feed);
+        refuse_in_order(j, closing_order, CLOSING, refuse_close);
+        EQUAL(feed(j, "", 0), CLOCKTOAD_USED_UP);
+        closes(j, closing, 0);
+    }
+}
+
+/* What was refused for its report alone is taken whole when it is offered again. */
+static void refused_reports(void)
+{
+    struct job *j = strange_job("A");
+    refuse_report(j);
+    EQUAL(feed(j, "\200", 1), CLOCKTOAD_NOTE);
+    CHECK(j->m.report[0] == 1 && j->m.report[1] == CLOCKTOAD_NOTE_INVALID && j->m.report[2] == 1);
+    refuse_report(j);
+    EQUAL(feed(j, "\f", 1), CLOCKTOAD_FORM_FINISHED);
+    CHECK(j->m.report[0] == 1 && j->m.report[1] == 0 && j->m.report[2] == 0);
+    refuse_report(j);
+    SEND(j, "\033d\001\033");
+    refuse_report(j);
+    closes(j, CLOCKTOAD_COMMAND_UNFINISHED, 6);
+}
+
+static void refused_states(void)
+{
+    struct job *j = strange_job("A");
+    for (unsigned turn = 0; turn < FEEDING * WAYS; turn++) {
+        memcpy(j->m.state, shut_words(), WORDS * sizeof(uint64_t));
+        refuse_state(j, turn);
+        memset(j->m.state, turn % 2 ? 0xFF : 0, WORDS * sizeof(uint64_t));
+        refuse_state(j, turn);
+        random_words(j->m.state);
+        refuse_state(j, turn);
+    }
+}
+
+/* The one word of the state that went from `was` to `is` or, if not `so`, that changed in another way; else -1. */
+static int moved_word(const uint64_t *was_state, const uint64_t *is_state, uint64_t was, uint64_t is, bool so)
 {
     int found = -1;
     for (int k = 0; k < WORDS; k++) {
-        if (was_state[k] != was || is_state[k] != is)
+        if (was_state[k] == is_state[k] || (was_state[k] == was && is_state[k] == is) != so)
             continue;
         if (found >= 0)
             return -1;
@@ -592,7 +663,7 @@ static int find_word(const char *first, const char *then, size_t length, uint64_
     send(&the_job, first, strlen(first));
     memcpy(state, the_job.m.state, sizeof state);
     send(&the_job, then, length);
-    int word = moved_word(state, the_job.m.state, was, is);
+    int word = moved_word(state, the_job.m.state, was, is, true);
     if (word < 0)
         untested++;
     return word;
@@ -601,13 +672,16 @@ static int find_word(const char *first, const char *then, size_t length, uint64_
 /* With that word of the state set to a number, the job answers this to an empty piece. */
 static void forged(int word, uint64_t number, uint64_t answer)
 {
+    static unsigned turn;
     struct job *j = &the_job;
     uint64_t kept = j->m.state[word];
     j->m.state[word] = number;
-    EQUAL(feed(j, "", 0), answer);
     if (answer == CLOCKTOAD_UNSOUND)
-        refuse_feed(&j->m, j->n, answer);
-    EQUAL(close_with(&j->m, j->n) == CLOCKTOAD_UNSOUND, answer == CLOCKTOAD_UNSOUND);
+        refuse_state(j, turn++);
+    else {
+        EQUAL(feed(j, "", 0), answer);
+        CHECK(close_with(&j->m, j->n) != CLOCKTOAD_UNSOUND);
+    }
     j->m.state[word] = kept;
 }
 
@@ -642,24 +716,111 @@ static void forged_numbers(void)
     }
 }
 
-/* On a form of one line no word can rightly be all ones. */
-static void forged_tabs(void)
+#define HEADER "\033Y\000\061\010\063"
+#define TWELVE_X "xxxxxxxxxxxx"
+
+/* The words of a begun command that it has a use for. MORE: which, is the library's own choice. */
+enum use { NO_WORD, THE_PLACE, MORE };
+
+static const struct { struct text sent; enum use use; } begun[] = {
+    { TEXT(""), NO_WORD }, { TEXT("A"), NO_WORD }, { TEXT("\033d"), NO_WORD }, { TEXT("\033"), THE_PLACE },
+    { TEXT("\033d\033"), THE_PLACE }, { TEXT("\033F"), THE_PLACE }, { TEXT("\033F\001"), THE_PLACE },
+    { TEXT("\033c"), THE_PLACE }, { TEXT("\033N"), THE_PLACE }, { TEXT("\033N\004"), MORE }, { TEXT("\033Y"), MORE },
+    { TEXT("\033Y\000"), MORE }, { TEXT("\033Y\000\061"), MORE }, { TEXT("\033Y\000\061\010"), MORE },
+    { TEXT(HEADER), MORE }, { TEXT(HEADER TWELVE_X), MORE }, { TEXT("\033Y\000\000\010\000"), MORE },
+    { TEXT("\033Y\000\001\010\000x"), MORE },
+};
+
+enum { BEGUN = sizeof begun / sizeof *begun };
+
+static void begin(size_t k)
 {
-    struct job *j = &the_job;
-    uint64_t state[WORDS];
-    int changed = 0, word = 0;
-    open_job(j, 1, 6);
-    memcpy(state, j->m.state, sizeof state);
-    SEND(j, "\0335\000\000\000");
-    for (int k = 0; k < WORDS; k++)
-        if (state[k] != j->m.state[k] && !(state[k] == 0 && j->m.state[k] == 5)) { /* but the job's length */
-            changed++;
-            word = k;
+    open_job(&the_job, 1, 6);
+    send(&the_job, begun[k].sent.bytes, begun[k].sent.length);
+}
+
+/* Numbers that no word can be: past the range of all but the tabs', where they are lines past the form's only one. */
+static void forged_words(void)
+{
+    for (size_t k = 0; k < BEGUN; k++) {
+        begin(k);
+        for (int word = 0; word < WORDS; word++) {
+            forged(word, UINT64_C(1) << 32, CLOCKTOAD_UNSOUND);
+            forged(word, UINT64_MAX, CLOCKTOAD_UNSOUND);
         }
-    if (changed != 1)
+    }
+}
+
+/* The job goes on as if that word of its state had not been set to a number. */
+static void unread(int word, uint64_t number)
+{
+    struct job *j = &the_job, *other = &spare_job;
+    memcpy(other, j, sizeof *other);
+    other->m.state[word] = number;
+    EQUAL(feed(other, "\0", 1), feed(j, "\0", 1));
+    CHECK(memcmp(&other->m, &j->m, lent_bytes(j)) == 0);
+}
+
+/* Twelve bytes that do nothing, to bring places and lengths past the numbers of kinds. */
+#define TWELVE "\a\a\a\a\a\a\a\a\a\a\a\a"
+
+/*
+ * The words with a range of their own, each with what moves it and the most that it can be.
+ * The first COMMAND_WORDS are those of a begun command, its place before the others.
+ */
+static const struct { const char *first; struct text then; uint64_t was, is, most; } range[] = {
+    { TWELVE, TEXT("\033"), 0, 12, UINT32_MAX },
+    { "", TEXT(HEADER), 0, 49, UINT16_MAX },
+    { "", TEXT(HEADER), 0, 2099, UINT16_MAX },
+    { "", TEXT(HEADER TWELVE_X), 0, 12, UINT16_MAX },
+    { "", TEXT(HEADER TWELVE_X), 0, 12 * 'x' % 256, UINT8_MAX },
+    { "", TEXT(TWELVE), 0, 12, UINT32_MAX },
+    { "", TEXT("\033>"), 0, 1, 1 },
+    { "", TEXT("\033<"), 0, 1, 1 },
+    { "", TEXT("\033a"), 0, 1, 1 },
+    { "", TEXT("\033N\004\000"), 0, 1, 1 },
+    { "", TEXT("A"), 1, 0, 1 },
+    { "\033d", TEXT("\033e"), 1, 0, 1 },
+    { "\033d\033e", TEXT("\r"), 1, 0, 1 },
+};
+
+enum { COMMAND_WORDS = 5 };
+
+/* Ranges are tested whatever is begun, also of words that it has no use for; those are then not read. */
+static void forged_ranges(void)
+{
+    for (size_t r = 0; r < sizeof range / sizeof *range; r++) {
+        int word = find_word(range[r].first, range[r].then.bytes, range[r].then.length, range[r].was, range[r].is);
+        if (word < 0)
+            continue;
+        for (size_t k = 0; k < BEGUN; k++) {
+            begin(k);
+            forged(word, range[r].most + 1, CLOCKTOAD_UNSOUND);
+            if (r >= COMMAND_WORDS || begun[k].use == MORE || (begun[k].use == THE_PLACE && r == 0))
+                continue;
+            forged(word, range[r].most, CLOCKTOAD_USED_UP);
+            unread(word, range[r].most);
+        }
+    }
+}
+
+/* A byte after ESC moves the kind and the job's length alone. */
+static void forged_kinds(void)
+{
+    uint64_t state[WORDS];
+    open_66();
+    SEND(&the_job, TWELVE "\033");
+    memcpy(state, the_job.m.state, sizeof state);
+    SEND(&the_job, "c");
+    int word = moved_word(state, the_job.m.state, 13, 14, false);
+    if (word < 0) {
         untested++;
-    else
-        forged(word, UINT64_MAX, CLOCKTOAD_UNSOUND);
+        return;
+    }
+    for (size_t k = 0; k < BEGUN; k++) {
+        begin(k);
+        forged(word, 11, CLOCKTOAD_UNSOUND);
+    }
 }
 
 static void job_limit(void)
@@ -680,6 +841,7 @@ static void job_limit(void)
     EQUAL(feed(j, "\n", 1), CLOCKTOAD_JOB_FULL);
     EQUAL(j->m.report[0], 0);
     EQUAL(feed(j, "", 0), CLOCKTOAD_USED_UP);
+    refuse_report(j);
     closes(j, CLOCKTOAD_LINE_UNPRINTED, 0);
 
     open_66();
@@ -1262,6 +1424,7 @@ static void compare_cut(struct job *j, const struct cut_job *job, const struct e
     CHECK(memcmp(j->m.staging, e->staging, STORE) == 0);
     CHECK(memcmp(j->m.store, e->store, STORE) == 0);
     closes(j, job->closing, job->place);
+    CHECK(j->m.state[WORDS] == FILL && j->m.report[REPORT] == FILL);
 }
 
 static void cuttings(void)
@@ -1289,8 +1452,9 @@ int main(void)
 {
     static void (*const tests[])(void) = {
         case_a_to_c, case_d_to_g, case_h, case_i, case_j, case_k_and_l,
-        sizes, refused_lengths_feeding, refused_lengths_opening, refused_forms, refused_states,
-        forged_numbers, forged_tabs, job_limit, every_byte, every_command, every_plot_byte, operands,
+        sizes, every_form, refused_openings, refused_feedings, refused_reports, refused_states,
+        forged_numbers, forged_words, forged_ranges, forged_kinds, job_limit,
+        every_byte, every_command, every_plot_byte, operands,
         striking, striking_strange_lines, features, lasting_features, plotting,
         tab_items, tabs_and_rows, download_headers, download_glyphs, downloaded_glyphs, resets, cuttings,
     };

@@ -5,7 +5,7 @@ ghost use Rattle.sheet.specs.Edition.{lp2};
 ghost use Rattle.printer.specs.declared.Printer.{Printer};
 ghost use Rattle.printer.specs.Given.{machine};
 ghost use Rattle.printer.specs.Machine.{new-printer, shut};
-ghost use Rattle.protocol.specs.Calls.{fit};
+ghost use Rattle.protocol.specs.Calls.{fit, opening};
 ghost use Rattle.protocol.specs.Given.{answer-to, is-quiet, fed};
 use printer::Event;
 use printer::Head;
@@ -22,7 +22,9 @@ use protocol::Opened;
 use sheet::Form;
 use sheet::Pitch;
 use sheet::counts::top;
+use sheet::sizes::lines_allowed;
 use sheet::sizes::page_bytes;
+use sheet::sizes::spacing_allowed;
 
 // The first of what is lent that has not its exact length.
 pub fn fit(form: Form, page: &[u8], line: &[u16], staging: &[u8], store: &[u8], font: &[u8]) -> Fit
@@ -46,6 +48,34 @@ pub fn fit(form: Form, page: &[u8], line: &[u16], staging: &[u8], store: &[u8], 
         return Fit::Wrong(Lent::Font);
     }
     Fit::Right
+}
+
+// What opening answers to what is lent, before it writes anything.
+pub fn admit(
+    lines: usize,
+    spacing: usize,
+    page: &[u8],
+    line: &[u16],
+    staging: &[u8],
+    store: &[u8],
+    font: &[u8],
+) -> Answer
+    ensures { λ r. ⌜ ((p : Printer) → r
+        ≡ opening lp2 lines spacing (now (font .entry))
+        (machine p (now (page .entry)) (now (line .entry)) (now (staging .entry)) (now (store .entry))) .answer) ⌝ }
+{
+    if !lines_allowed(lines) {
+        return Answer::WrongLines;
+    }
+    if !spacing_allowed(spacing) {
+        return Answer::WrongSpacing;
+    }
+    let form = Form { lines, spacing };
+    let fitting = fit(form, page, line, staging, store, font);
+    match fitting {
+        Fit::Wrong(lent) => Answer::Misfit(lent),
+        Fit::Right => Answer::Done,
+    }
 }
 
 // The state at the start of a job.

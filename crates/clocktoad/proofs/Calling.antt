@@ -2,23 +2,27 @@
 use Prim.Native.Nat.{ℕ, _≤_}
 use mathlib.Core.Bool.{Bool, true, false, true≢false}
 use mathlib.Core.List.{List, [], _∷_}
-use mathlib.Core.Path.{_≡_, refl, sym, _∙_}
+use mathlib.Core.Path.{_≡_, refl, ap, sym, _∙_}
 use native.Mathlib.Omega.{arith}
 use borrow.Author.Tests.{eq-eqb, ne-eqb}
+use lib.Dec.{eqb}
 use lib.ListN.{length}
 use Rattle.sheet.specs.Edition.{lp2}
 use Rattle.printer.specs.declared.Closing.{Closing}
 use Rattle.printer.specs.declared.Printer.{Printer}
 use Rattle.printer.specs.Closing.{closing}
 use Rattle.printer.specs.Given.{machine}
-use Rattle.printer.specs.Machine.{shut}
+use Rattle.printer.specs.Machine.{Machine, shut, with-printer}
 use Rattle.protocol.specs.declared.Answer.{Answer}
 use Rattle.protocol.specs.declared.Answer.the-variants.{Done, Finished, Noted, JobFull, Unsound, Misfit, WrongLines, WrongSpacing}
 use Rattle.protocol.specs.declared.Lent.the-variants.{Page, LineStore, Staging, DownloadStore, Font}
-use Rattle.protocol.specs.Answers.{close-place, close-report, lent-number, noted-number, noted-place, refusal, report}
+use Rattle.printer.specs.Numbers.{close-report, value}
+use Rattle.protocol.specs.Answers.{lent-number, refusal, report}
 use Rattle.protocol.specs.Calls.{Feeding, Opening, feeding, opening}
-use Rattle.clocktoad.specs.Calls.{Called, Closed, called, close-call, closing-words, feed-call, feeding-report, feeding-words, open-call, opening-words}
-use Rattle.words.specs.Words.{is-state, state-of, state-words}
+use Rattle.protocol.proofs.Ways.{feed-nothing, refused-alike, refused-same}
+use Rattle.clocktoad.specs.Calls.{Called, Closed, called, close-call, closing-report, closing-words, feed-call, feeding-report, feeding-words}
+use Rattle.clocktoad.specs.Calls.{open-call, opening-words, refused-or, report-size}
+use Rattle.words.specs.Words.{is-state, state-of, state-size, state-words}
 
 -- the memory that opening and feeding are lent, with the state
 pub record Lent : Type 0 where
@@ -34,23 +38,27 @@ abbrev left-alone : Lent → ℕ → List ℕ → Called
 left-alone x number told = called number (x .state) (x .page) (x .line) (x .staging) (x .store) told
 
 module _ (lines spacing : ℕ) (x : Lent) where
-  -- what opening is to give, and a state with it but for number 21
+  abbrev opens-as : Opening
+  opens-as = opening lp2 lines spacing (x .font) (machine shut (x .page) (x .line) (x .staging) (x .store))
+
+  -- what opening is to give, and a state with it where there are words for one
   abbrev Opens : Called → Type 0
   Opens g =
       (g ≡ open-call lines spacing (x .font) (x .state) (x .page) (x .line) (x .staging) (x .store))
-      × ((g .number ≡ 21 → ⊥) → is-state (g .state) ≡ true)
+      × (length (x .state) ≡ state-size → is-state (g .state) ≡ true)
 
-  pub open-21 : (length (x .state) ≡ 20 → ⊥) → Opens (left-alone x 21 [])
+  pub open-unkept : {number : ℕ} {a : Answer} → (length (x .state) ≡ state-size → ⊥) → number ≡ refused-or 21 a → a ≡ opens-as .answer
+      → Opens (left-alone x number [])
   unfolding open-call
-  open-21 n = (simp (ne-eqb (length (x .state)) 20 n), λ m. absurd (m refl))
+  open-unkept n r e = (rw (ne-eqb (length (x .state)) state-size n, r, e), λ l. absurd (n l))
 
-  pub opens : (o : Opening) {words : List ℕ} {number : ℕ} → length (x .state) ≡ 20
-      → o ≡ opening lp2 lines spacing (x .font) (machine shut (x .page) (x .line) (x .staging) (x .store))
+  pub opens : (o : Opening) {words : List ℕ} {number : ℕ} → length (x .state) ≡ state-size
+      → o ≡ opens-as
       → (words ≡ state-words (o .machine .printer)) × (is-state words ≡ true)
       → number ≡ report (o .answer) .number
       → Opens (called number words (o .machine .page) (o .machine .line) (o .machine .staging) (o .machine .store) [])
   unfolding open-call opening-words
-  opens o l e w n = (rw (eq-eqb (length (x .state)) 20 l, ← e, w .0, n), λ m. w .1)
+  opens o l e w n = (rw (eq-eqb (length (x .state)) state-size l, ← e, w .0, n), λ m. w .1)
 
 -- a refusal has a number of its own
 pub refusal-numbers : (a : Answer) → refusal a ≡ true → 10 ≤ report a .number
@@ -68,6 +76,20 @@ refusal-numbers (Misfit Font) q = omega arith
 refusal-numbers WrongLines q = omega arith
 refusal-numbers WrongSpacing q = omega arith
 
+-- What an empty piece is refused with is what any is, and it leaves the machine as it is.
+module _ (font piece : List ℕ) (m : Machine) (f : Feeding) (e : f ≡ feeding lp2 font [] m) where
+  same-refusal : (t : Bool) → refusal (feeding lp2 font [] m .answer) ≡ t
+      → refused-or 22 (feeding lp2 font [] m .answer) ≡ refused-or 22 (feeding lp2 font piece m .answer)
+  unfolding refused-or
+  same-refusal true q = ap (λ (x : Feeding). refused-or 22 (x .answer)) (sym (refused-same lp2 font piece m q))
+  same-refusal false q = rw (refused-alike lp2 font piece m, q)
+
+  pub unheard : {number : ℕ} → number ≡ refused-or 22 (f .answer) → number ≡ refused-or 22 (feeding lp2 font piece m .answer)
+  unheard n = n ∙ ap (λ (x : Feeding). refused-or 22 (x .answer)) e ∙ same-refusal (refusal (feeding lp2 font [] m .answer)) refl
+
+  pub unmoved : with-printer (m .printer) (f .machine) ≡ m
+  unmoved = ap (with-printer (m .printer)) (ap (λ (x : Feeding). x .machine) e ∙ feed-nothing lp2 font [] m)
+
 module _ (x : Lent) (piece told : List ℕ) where
   abbrev pub at-feed : Called
   at-feed = feed-call (x .font) piece (x .state) (x .page) (x .line) (x .staging) (x .store) told
@@ -76,25 +98,23 @@ module _ (x : Lent) (piece told : List ℕ) where
   abbrev Feeds : Called → Type 0
   Feeds g = (g ≡ at-feed) × (g .number ≤ 3 → is-state (g .state) ≡ true)
 
-  pub feed-21 : (length (x .state) ≡ 20 → ⊥) → Feeds (left-alone x 21 told)
+  pub feed-10 : is-state (x .state) ≡ false → Feeds (left-alone x 10 told)
   unfolding feed-call
-  feed-21 n = (simp (ne-eqb (length (x .state)) 20 n), λ m. absurd (omega arith))
+  feed-10 q = (simp q, λ m. absurd (omega arith))
 
-  module _ (l : length (x .state) ≡ 20) where
-    pub feed-22 : (length told ≡ 4 → ⊥) → Feeds (left-alone x 22 told)
+  module _ (q : is-state (x .state) ≡ true) {p : Printer} (s : p ≡ state-of (x .state)) where
+    abbrev lent-to : Machine
+    lent-to = machine p (x .page) (x .line) (x .staging) (x .store)
+
+    pub feed-unreported : {number : ℕ} (left : Machine) → (length told ≡ report-size → ⊥)
+        → number ≡ refused-or 22 (feeding lp2 (x .font) piece lent-to .answer) → left ≡ lent-to
+        → Feeds (called number (x .state) (left .page) (left .line) (left .staging) (left .store) told)
     unfolding feed-call
-    feed-22 n = (simp (eq-eqb (length (x .state)) 20 l, ne-eqb (length told) 4 n), λ m. absurd (omega arith))
+    feed-unreported left n r e = (rw (q, ne-eqb (length told) report-size n, r, e, s), λ m. q)
 
-    module _ (k : length told ≡ 4) where
-      pub feed-10 : is-state (x .state) ≡ false → Feeds (left-alone x 10 told)
-      unfolding feed-call
-      feed-10 q = (simp (eq-eqb (length (x .state)) 20 l, eq-eqb (length told) 4 k, q), λ m. absurd (omega arith))
-
-      pub feeds : (f : Feeding) {p : Printer} → is-state (x .state) ≡ true → p ≡ state-of (x .state)
-          → f ≡ feeding lp2 (x .font) piece (machine p (x .page) (x .line) (x .staging) (x .store))
-          → feeding-words f (x .state) told ≡ at-feed
-      unfolding feed-call
-      feeds f q p e = simp (eq-eqb (length (x .state)) 20 l, eq-eqb (length told) 4 k, q, e, p)
+    pub feeds : (f : Feeding) → length told ≡ report-size → f ≡ feeding lp2 (x .font) piece lent-to → feeding-words f (x .state) told ≡ at-feed
+    unfolding feed-call
+    feeds f k e = simp (eq-eqb (length told) report-size k, q, e, s)
 
   -- a refused feeding, and one that is not
   module _ (f : Feeding) {number : ℕ} {no : Bool} (e : feeding-words f (x .state) told ≡ at-feed) (n : number ≡ report (f .answer) .number)
@@ -106,12 +126,12 @@ module _ (x : Lent) (piece told : List ℕ) where
         let refused : refusal (f .answer) ≡ true = sym r ∙ q in
         (rw (← e, refused, n), λ m. absurd (omega (arith, refusal-numbers (f .answer) refused)))
 
-    pub fed-on : {words report : List ℕ} {note place : ℕ} → no ≡ false
+    pub fed-on : {words written : List ℕ} {note place : ℕ} → no ≡ false
         → (words ≡ state-words (f .machine .printer)) × (is-state words ≡ true)
-        → report ≡ f .taken ∷ note ∷ place ∷ 0 ∷ []
-        → note ≡ noted-number (f .answer)
-        → place ≡ noted-place (f .answer)
-        → Feeds (called number words (f .machine .page) (f .machine .line) (f .machine .staging) (f .machine .store) report)
+        → written ≡ f .taken ∷ note ∷ place ∷ 0 ∷ []
+        → note ≡ value 0 (report (f .answer))
+        → place ≡ value 1 (report (f .answer))
+        → Feeds (called number words (f .machine .page) (f .machine .line) (f .machine .staging) (f .machine .store) written)
     unfolding feeding-words feeding-report
     fed-on q w s a b =
         let heeded : refusal (f .answer) ≡ false = sym r ∙ q in
@@ -121,24 +141,13 @@ module _ (state told : List ℕ) where
   abbrev at-close : Closed
   at-close = close-call state told
 
-  pub close-21 : (length state ≡ 20 → ⊥) → record { number = 21; report = told } ≡ at-close
+  pub close-10 : is-state state ≡ false → record { number = 10; report = told } ≡ at-close
   unfolding close-call
-  close-21 n = simp (ne-eqb (length state) 20 n)
+  close-10 q = simp q
 
-  module _ (l : length state ≡ 20) where
-    pub close-22 : (length told ≡ 4 → ⊥) → record { number = 22; report = told } ≡ at-close
-    unfolding close-call
-    close-22 n = simp (eq-eqb (length state) 20 l, ne-eqb (length told) 4 n)
-
-    module _ (k : length told ≡ 4) where
-      pub close-10 : is-state state ≡ false → record { number = 10; report = told } ≡ at-close
-      unfolding close-call
-      close-10 q = simp (eq-eqb (length state) 20 l, eq-eqb (length told) 4 k, q)
-
-      pub closes : (c : Closing) {p : Printer} → is-state state ≡ true → p ≡ state-of state → c ≡ closing lp2 p
-          → closing-words c told ≡ at-close
-      unfolding close-call
-      closes c q p e = simp (eq-eqb (length state) 20 l, eq-eqb (length told) 4 k, q, e, p)
+  pub closes : (c : Closing) {p : Printer} → is-state state ≡ true → p ≡ state-of state → c ≡ closing lp2 p → closing-words c told ≡ at-close
+  unfolding close-call
+  closes c q p e = simp (q, e, p)
 
   -- a refused closing, and one that is not
   module _ (c : Closing) {number : ℕ} (e : closing-words c told ≡ at-close) (n : number ≡ close-report c .number) where
@@ -146,7 +155,15 @@ module _ (state told : List ℕ) where
     unfolding closing-words
     closed-refused q = let ten : close-report c .number ≡ 10 = sym n ∙ q in rw (← e, ten)
 
-    pub closed-told : {report : List ℕ} {place : ℕ} → (number ≡ 10 → ⊥) → report ≡ 0 ∷ 0 ∷ place ∷ 0 ∷ [] → place ≡ close-place c
-        → record { number = number; report = report } ≡ at-close
-    unfolding closing-words
-    closed-told m r p = let other : close-report c .number ≡ 10 → ⊥ = λ q. m (n ∙ q) in rw (← e, ne-eqb (close-report c .number) 10 other, n, r, p)
+    module _ (m : number ≡ 10 → ⊥) where
+      other : eqb (close-report c .number) 10 ≡ false
+      other = ne-eqb (close-report c .number) 10 (λ q. m (n ∙ q))
+
+      pub closed-unreported : (length told ≡ report-size → ⊥) → record { number = 22; report = told } ≡ at-close
+      unfolding closing-words
+      closed-unreported k = rw (← e, other, ne-eqb (length told) report-size k)
+
+      pub closed-told : {report : List ℕ} {place : ℕ} → length told ≡ report-size → report ≡ 0 ∷ 0 ∷ place ∷ 0 ∷ []
+          → place ≡ value 0 (close-report c) → record { number = number; report = report } ≡ at-close
+      unfolding closing-words closing-report
+      closed-told k r p = rw (← e, other, eq-eqb (length told) report-size k, n, r, p)

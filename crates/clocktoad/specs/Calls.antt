@@ -1,5 +1,5 @@
--- The calls of another language: document 01's opening, feeding and closing over words and lent memory. House: 21 and 22 are a state and a report of the
--- wrong length, tested before all else; what is no state at all is answered 10.
+-- The calls of another language: document 01's opening, feeding and closing over words and lent memory. House: 21 is a state and 22 a report of the wrong
+-- length, each refused after all that the call refuses besides; what is no state at all is answered 10.
 use Prim.Native.Nat.{ℕ}
 use mathlib.Core.Bool.{cond}
 use mathlib.Core.List.{List, [], _∷_}
@@ -10,9 +10,11 @@ use Rattle.printer.specs.declared.Closing.{Closing}
 use Rattle.printer.specs.Closing.{closing}
 use Rattle.printer.specs.Given.{machine}
 use Rattle.printer.specs.Machine.{shut}
-use Rattle.protocol.specs.Answers.{close-place, close-report, noted-number, noted-place, refusal, report}
+use Rattle.printer.specs.Numbers.{close-report, value}
+use Rattle.protocol.specs.declared.Answer.{Answer}
+use Rattle.protocol.specs.Answers.{refusal, report}
 use Rattle.protocol.specs.Calls.{Feeding, Opening, feeding, opening}
-use Rattle.words.specs.Words.{is-state, state-of, state-words}
+use Rattle.words.specs.Words.{is-state, state-of, state-size, state-words}
 
 -- what a call gives back: its number, and all that it was lent as it leaves it
 pub record Called : Type 0 where
@@ -28,20 +30,28 @@ abbrev pub called : ℕ → List ℕ → List ℕ → List ℕ → List ℕ → 
 called number state page line staging store report =
     record { number = number; state = state; page = page; line = line; staging = staging; store = store; report = report }
 
+-- how many words a report has
+abbrev pub report-size : ℕ
+report-size = 4
+
+-- the number of a refusal, or else that of what is lent beside it and has the wrong length
+unfoldable pub refused-or : ℕ → Answer → ℕ
+refused-or number a = cond (refusal a) (report a .number) number
+
 -- opening: the words of the state that it gives, of a refused opening the shut one's
 unfoldable pub opening-words : Opening → Called
 opening-words o =
     called (report (o .answer) .number) (state-words (o .machine .printer)) (o .machine .page) (o .machine .line) (o .machine .staging) (o .machine .store) []
 
+-- 18, 19, 11 to 15, then 21: a state of the wrong length is not written, and neither is anything else
 unfoldable pub open-call : ℕ → ℕ → List ℕ → List ℕ → List ℕ → List ℕ → List ℕ → List ℕ → Called
 open-call lines spacing font state page line staging store =
-    cond (eqb (length state) 20)
-    (opening-words (opening lp2 lines spacing font (machine shut page line staging store)))
-    (called 21 state page line staging store [])
+    let o : Opening = opening lp2 lines spacing font (machine shut page line staging store) in
+    cond (eqb (length state) state-size) (opening-words o) (called (refused-or 21 (o .answer)) state page line staging store [])
 
 -- bytes taken, the note's number and place (0 where there is none), 0
 unfoldable pub feeding-report : Feeding → List ℕ
-feeding-report f = f .taken ∷ noted-number (f .answer) ∷ noted-place (f .answer) ∷ 0 ∷ []
+feeding-report f = f .taken ∷ value 0 (report (f .answer)) ∷ value 1 (report (f .answer)) ∷ 0 ∷ []
 
 -- a refused feeding writes neither state nor report
 unfoldable pub feeding-words : Feeding → List ℕ → List ℕ → Called
@@ -55,29 +65,32 @@ feeding-words f state told =
     (f .machine .store)
     (cond (refusal (f .answer)) told (feeding-report f))
 
+-- 10, also for what is no state; 11 to 15; then 22, which takes no byte and writes nothing; then bytes
 unfoldable pub feed-call : List ℕ → List ℕ → List ℕ → List ℕ → List ℕ → List ℕ → List ℕ → List ℕ → Called
 feed-call font piece state page line staging store told =
-    cond (eqb (length state) 20)
-    (cond (eqb (length told) 4)
-    (cond (is-state state)
-    (feeding-words (feeding lp2 font piece (machine (state-of state) page line staging store)) state told)
-    (called 10 state page line staging store told))
-    (called 22 state page line staging store told))
-    (called 21 state page line staging store told)
+    let f : Feeding = feeding lp2 font piece (machine (state-of state) page line staging store) in
+    cond (is-state state)
+    (cond (eqb (length told) report-size) (feeding-words f state told) (called (refused-or 22 (f .answer)) state page line staging store told))
+    (called 10 state page line staging store told)
 
 -- what closing gives back: its number, and the report
 pub record Closed : Type 0 where
   pub number : ℕ
   pub report : List ℕ
 
--- the place of the unfinished command, between zeros; what is refused writes no report
-unfoldable pub closing-words : Closing → List ℕ → Closed
-closing-words c told = record { number = close-report c .number; report = cond (eqb (close-report c .number) 10) told (0 ∷ 0 ∷ close-place c ∷ 0 ∷ []) }
+-- the place of the unfinished command, between zeros
+unfoldable pub closing-report : Closing → List ℕ
+closing-report c = 0 ∷ 0 ∷ value 0 (close-report c) ∷ 0 ∷ []
 
-unfoldable pub close-call : List ℕ → List ℕ → Closed
-close-call state told =
-    cond (eqb (length state) 20)
-    (cond (eqb (length told) 4)
-    (cond (is-state state) (closing-words (closing lp2 (state-of state)) told) (record { number = 10; report = told }))
+-- 10, then 22; neither writes the report
+unfoldable pub closing-words : Closing → List ℕ → Closed
+closing-words c told =
+    cond (eqb (close-report c .number) 10)
+    (record { number = 10; report = told })
+    (cond (eqb (length told) report-size)
+    (record { number = close-report c .number; report = closing-report c })
     (record { number = 22; report = told }))
-    (record { number = 21; report = told })
+
+-- 10 also for what is no state
+unfoldable pub close-call : List ℕ → List ℕ → Closed
+close-call state told = cond (is-state state) (closing-words (closing lp2 (state-of state)) told) (record { number = 10; report = told })

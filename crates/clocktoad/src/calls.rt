@@ -1,33 +1,53 @@
 // The calls of another language. Each takes whatever it is handed, and refuses by number what doesn't fit.
 ghost use mathlib.Core.Path.{_≡_};
 ghost use mathlib.Core.Bool.{true};
-ghost use mathlib.Core.List.{[], _∷_};
+ghost use mathlib.Core.List.{List, [], _∷_};
 ghost use lib.ListN.{length};
-ghost use Prim.Native.Nat.{_≤_};
-ghost use Rattle.clocktoad.specs.Calls.{called, close-call, feed-call, open-call};
-ghost use Rattle.words.specs.Words.{is-state};
+ghost use Prim.Native.Nat.{ℕ, _≤_};
+ghost use Rattle.sheet.specs.Edition.{lp2};
+ghost use Rattle.printer.specs.Given.{machine};
+ghost use Rattle.protocol.specs.Calls.{feeding};
+ghost use Rattle.words.specs.Words.{is-state, state-size};
+ghost use Rattle.clocktoad.specs.Calls.{called, close-call, feed-call, open-call, refused-or, report-size};
+use answers::admit;
 use job::calls::close;
 use job::calls::feed;
 use job::calls::open;
+use printer::Printer;
+use protocol::Answer;
 use protocol::numbers::answer_number;
 use protocol::numbers::close_number;
 use protocol::numbers::close_place;
 use protocol::numbers::noted_number;
 use protocol::numbers::noted_place;
 use protocol::numbers::refusal;
+use words::STATE_WORDS;
 use words::is_state;
 use words::put;
 use words::state_of;
 
-// Writes the four words of a report.
+// How many words a report has.
+pub const REPORT_WORDS: usize = 4;
+
+// Writes the words of a report.
 fn tell(report: &mut [u64], taken: usize, number: u64, place: u64)
-    requires { ⌜ length (now report) ≡ 4 ⌝ }
+    requires { ⌜ length (now report) ≡ report-size ⌝ }
     ensures { λ _. ⌜ now (report .exit) ≡ taken ∷ number ∷ place ∷ 0 ∷ [] ⌝ }
 {
     report[0] = taken as u64;
     report[1] = number;
     report[2] = place;
     report[3] = 0;
+}
+
+// The number of a refusal, or else that of what is lent beside it and has the wrong length.
+fn refused_or(number: u64, answer: Answer) -> u64
+    ensures { λ r. ⌜ r ≡ refused-or number answer ⌝ }
+{
+    if refusal(answer) {
+        return answer_number(answer);
+    }
+    number
 }
 
 // Opens a job.
@@ -45,16 +65,36 @@ pub extern "C" fn clocktoad_open(
     ensures { λ r. ⌜ called r (now (state .exit)) (now (page .exit)) (now (line .exit)) (now (staging .exit)) (now (store .exit)) []
         ≡ open-call lines spacing (now (font .entry)) (now (state .entry)) (now (page .entry))
         (now (line .entry)) (now (staging .entry)) (now (store .entry)) ⌝ }
-    ensures { λ r. ⌜ ((r ≡ 21 → ⊥) → is-state (now (state .exit)) ≡ true) ⌝ }
+    ensures { λ r. ⌜ (length (now (state .entry)) ≡ state-size → is-state (now (state .exit)) ≡ true) ⌝ }
 {
-    if state.len() != 20 {
-        return 21;
+    if state.len() != STATE_WORDS {
+        return refused_or(21, admit(lines, spacing, page, line, staging, store, font));
     }
     let opened = open(lines, spacing, page, line, staging, store, font);
     let printer = opened.printer;
     let answer = opened.answer;
     put(state, printer);
     answer_number(answer)
+}
+
+// The answer to a feeding with a report of the wrong length: 22, after all that feeding refuses besides. It refuses an empty piece as it does any other, and
+// of that it takes nothing.
+fn unreported(
+    p: Printer,
+    page: &mut [u8],
+    line: &mut [u16],
+    staging: &mut [u8],
+    store: &mut [u8],
+    font: &[u8],
+) -> u64
+    ensures { λ r. ⌜ ((piece : List ℕ) → r ≡ refused-or 22 (feeding lp2 (now (font .entry)) piece
+        (machine p (now (page .entry)) (now (line .entry)) (now (staging .entry)) (now (store .entry))) .answer)) ⌝ }
+    ensures { λ _. ⌜ machine p (now (page .exit)) (now (line .exit)) (now (staging .exit)) (now (store .exit))
+        ≡ machine p (now (page .entry)) (now (line .entry)) (now (staging .entry)) (now (store .entry)) ⌝ }
+{
+    let fed = feed(p, &font[..0], page, line, staging, store, font);
+    let answer = fed.answer;
+    refused_or(22, answer)
 }
 
 // Feeds a piece of the job.
@@ -74,14 +114,11 @@ pub extern "C" fn clocktoad_feed(
         (now (staging .entry)) (now (store .entry)) (now (report .entry)) ⌝ }
     ensures { λ r. ⌜ (r ≤ 3 → is-state (now (state .exit)) ≡ true) ⌝ }
 {
-    if state.len() != 20 {
-        return 21;
-    }
-    if report.len() != 4 {
-        return 22;
-    }
     if !is_state(state) {
         return 10;
+    }
+    if report.len() != REPORT_WORDS {
+        return unreported(state_of(state), page, line, staging, store, font);
     }
     let fed = feed(state_of(state), piece, page, line, staging, store, font);
     let printer = fed.printer;
@@ -99,12 +136,6 @@ pub extern "C" fn clocktoad_feed(
 pub extern "C" fn clocktoad_close(state: &[u64], report: &mut [u64]) -> u64
     ensures { λ r. ⌜ record { number = r; report = now (report .exit) } ≡ close-call (now (state .entry)) (now (report .entry)) ⌝ }
 {
-    if state.len() != 20 {
-        return 21;
-    }
-    if report.len() != 4 {
-        return 22;
-    }
     if !is_state(state) {
         return 10;
     }
@@ -112,6 +143,9 @@ pub extern "C" fn clocktoad_close(state: &[u64], report: &mut [u64]) -> u64
     let number = close_number(closing);
     if number == 10 {
         return 10;
+    }
+    if report.len() != REPORT_WORDS {
+        return 22;
     }
     tell(report, 0, 0, close_place(closing));
     number

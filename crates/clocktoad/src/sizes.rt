@@ -2,20 +2,24 @@
 ghost use mathlib.Core.Path.{_≡_};
 ghost use Rattle.sheet.specs.Edition.{lp2};
 ghost use Rattle.sheet.specs.Form.{page-size};
+ghost use Rattle.words.specs.Words.{state-size};
+ghost use Rattle.clocktoad.specs.Calls.{report-size};
+use crate::calls::REPORT_WORDS;
 use sheet::sizes::page_size;
+use words::STATE_WORDS;
 
 #[no_mangle]
 pub extern "C" fn clocktoad_state_words() -> usize
-    ensures { λ r. ⌜ r ≡ 20 ⌝ }
+    ensures { λ r. ⌜ r ≡ state-size ⌝ }
 {
-    20
+    STATE_WORDS
 }
 
 #[no_mangle]
 pub extern "C" fn clocktoad_report_words() -> usize
-    ensures { λ r. ⌜ r ≡ 4 ⌝ }
+    ensures { λ r. ⌜ r ≡ report-size ⌝ }
 {
-    4
+    REPORT_WORDS
 }
 
 // The bytes of a page, 0 where there is no such form.

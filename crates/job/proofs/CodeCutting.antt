@@ -2,7 +2,7 @@
 -- A contract is about arguments that memory can hold, which is what their types say (`HeldTypes` in printer); no more is asked here.
 use Prim.Native.Nat.{ℕ, _^_, _≤_, _<_}
 use mathlib.Core.List.{List}
-use mathlib.Core.Path.{_≡_, ap, sym, _∙_}
+use mathlib.Core.Path.{_≡_, ap, subst, sym, _∙_}
 use lib.ListN.{length}
 use Rattle.sheet.specs.Edition.{lp2}
 use Rattle.sheet.specs.Held.{All, HeldBytes}
@@ -47,7 +47,9 @@ module _ (code : Meets) (font : List ℕ) (lines spacing : ℕ) (lent : Machine)
   pub code-past-limit : delivery lp2 (code .feed font) pieces start ≡ delivered-up-to 4294967295 (reading lp2 font) (joined pieces) start
   code-past-limit =
       let o = code .opens lines spacing font lent a b f h in
-      rw o
+      let given : Opening → Type 0 =
+      λ x. delivery lp2 (code .feed font) pieces (x .machine) ≡ delivered-up-to 4294967295 (reading lp2 font) (joined pieces) (x .machine) in
+      subst given (sym o)
       (delivery-same (code-agrees code font f) pieces (opening lp2 lines spacing font lent .machine) p (opening-held lp2 lines spacing font lent a b h)
       ∙ past-limit lp2 font lines spacing lent pieces (sym (ap (λ (x : Opening). x .answer) o) ∙ done))
 

@@ -11,6 +11,7 @@ ghost use Rattle.printer.specs.Machine.{empty-store, new-printer};
 ghost use Rattle.printer.specs.Room.{Ready, Sized};
 ghost use Rattle.protocol.specs.Calls.{feeding, opening, take-bytes};
 ghost use Rattle.protocol.specs.Given.{given-feeding, given-opening, more};
+use answers::admit;
 use answers::answer_to;
 use answers::counted;
 use answers::fit;
@@ -24,13 +25,12 @@ use protocol::Answer;
 use protocol::Fed;
 use protocol::Fit;
 use protocol::Opened;
+use protocol::numbers::refusal;
 use reader::step;
 use runs::run;
 use sheet::Form;
 use sheet::clearing::blank;
 use sheet::clearing::empty;
-use sheet::sizes::lines_allowed;
-use sheet::sizes::spacing_allowed;
 use state::closing;
 use state::sound;
 
@@ -70,18 +70,12 @@ pub fn open(
         ≡ opening lp2 lines spacing (now (font .entry))
         (machine p (now (page .entry)) (now (line .entry)) (now (staging .entry)) (now (store .entry)))) ⌝ }
 {
-    if !lines_allowed(lines) {
-        return unopened(Answer::WrongLines);
-    }
-    if !spacing_allowed(spacing) {
-        return unopened(Answer::WrongSpacing);
+    let answer = admit(lines, spacing, page, line, staging, store, font);
+    if refusal(answer) {
+        return unopened(answer);
     }
     let form = Form { lines, spacing };
-    let fitting = fit(form, page, line, staging, store, font);
-    match fitting {
-        Fit::Wrong(lent) => unopened(Answer::Misfit(lent)),
-        Fit::Right => start(form, page, line, staging, store),
-    }
+    start(form, page, line, staging, store)
 }
 
 // Takes the bytes of a piece, up to one that has something to tell, or to the job's limit: runs of like bytes at one go, every other byte by a step.

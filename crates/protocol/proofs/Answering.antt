@@ -15,7 +15,7 @@ use Rattle.printer.specs.declared.Closing.the-variants as closing
 use Rattle.printer.specs.declared.Event.{Event}
 use Rattle.printer.specs.declared.Event.the-variants as event
 use Rattle.printer.specs.Bytes.{step}
-use Rattle.printer.specs.Numbers.{close-report, plain}
+use Rattle.printer.specs.Numbers.{Report, close-report, plain}
 use Rattle.printer.specs.Machine.{Machine, shut, with-printer}
 use Rattle.printer.specs.Sound.{form-sound, sound}
 use Rattle.printer.specs.Steps.{Step, tell, tell-step}
@@ -29,6 +29,27 @@ use Rattle.protocol.specs.declared.Lent.the-variants.{Page, LineStore, S
 use Rattle.protocol.specs.Answers.{lent-number, refusal, report}
 use Rattle.protocol.specs.Protocol.{used-up}
 use Rattle.protocol.specs.Calls.{Feeding, Opening, feed-fitted, feeding, fit, heard, limit, open-fitted, opening, stopped, take-bytes, unopened}
+
+-- what does not fit has the numbers 11 to 15
+lent-numbers : (lent : Lent) → (11 ≤ lent-number lent) × (lent-number lent ≤ 15)
+unfolding lent-number
+lent-numbers Page = (omega arith, omega arith)
+lent-numbers LineStore = (omega arith, omega arith)
+lent-numbers Staging = (omega arith, omega arith)
+lent-numbers DownloadStore = (omega arith, omega arith)
+lent-numbers Font = (omega arith, omega arith)
+
+-- 0 is the number of one answer alone
+pub numbered-0 : (a : Answer) → report a ≡ plain 0 → a ≡ Done
+unfolding report
+numbered-0 Done q = refl
+numbered-0 Finished q = absurd (let n = ap (λ (r : Report). r .number) q in omega arith)
+numbered-0 (Noted f place) q = absurd (let n = ap (λ (r : Report). r .number) q in omega arith)
+numbered-0 JobFull q = absurd (let n = ap (λ (r : Report). r .number) q in omega arith)
+numbered-0 Unsound q = absurd (let n = ap (λ (r : Report). r .number) q in omega arith)
+numbered-0 (Misfit lent) q = absurd (let n = ap (λ (r : Report). r .number) q in omega (arith, lent-numbers lent))
+numbered-0 WrongLines q = absurd (let n = ap (λ (r : Report). r .number) q in omega arith)
+numbered-0 WrongSpacing q = absurd (let n = ap (λ (r : Report). r .number) q in omega arith)
 
 -- A call that takes bytes of a piece of n is no refusal, counts the bytes that it takes, takes no more than there are, and all where it answers 0.
 record Taking (n : ℕ) (m : Machine) (f : Feeding) : Type 0 where
@@ -66,6 +87,10 @@ module _ (e : Edition) (font : List ℕ) where
       let s : Step = step e font b m in
       taking-if (suc (length bs)) m _ (ltb (m .printer .job) limit)
       (heard-taking (length bs) (s .event) m (s .machine) _ (step-counts e font b m .1) (taking bs (s .machine)))
+
+  -- bytes that are taken are not refused
+  pub taking-heeds : (bs : List ℕ) (m : Machine) → refusal (take-bytes e font bs m .answer) ≡ false
+  taking-heeds bs m = taking bs m .allowed
 
   -- a byte below the limit is taken
   heard-moves : (v : Event) (x : Machine) (f : Feeding) → 1 ≤ heard v x f .taken
@@ -123,8 +148,8 @@ module _ (e : Edition) (font piece : List ℕ) (m : Machine) where
   takes-all f (refused r t q) d = absurd (true≢false (sym r ∙ ap refusal d))
   takes-all f (taken q) d = ap (λ (g : Feeding). g .taken) q ∙ taking e font piece m .all (sym (ap (λ (g : Feeding). g .answer) q) ∙ d)
 
-  pub feeding-done : feeding e font piece m .answer ≡ Done → feeding e font piece m .taken ≡ length piece
-  feeding-done d = takes-all _ (fate e font piece m) d
+  pub feeding-done : report (feeding e font piece m .answer) ≡ plain 0 → feeding e font piece m .taken ≡ length piece
+  feeding-done d = takes-all _ (fate e font piece m) (numbered-0 _ d)
 
 -- Unless it is refused, a feeding of a piece that is not empty, below the job limit, takes a byte at least.
 module _ (e : Edition) (font : List ℕ) (b : ℕ) (bs : List ℕ) (m : Machine) where
@@ -173,14 +198,6 @@ pub shut-unsound : (e : Edition) → sound e shut ≡ false
 unfolding sound form-sound lines-allowed
 shut-unsound e = refl
 
-lent-not-17 : (lent : Lent) → lent-number lent ≡ 17 → ⊥
-unfolding lent-number
-lent-not-17 Page q = omega arith
-lent-not-17 LineStore q = omega arith
-lent-not-17 Staging q = omega arith
-lent-not-17 DownloadStore q = omega arith
-lent-not-17 Font q = omega arith
-
 -- document 02 retired 17: no opening and no feeding answers it
 pub retired-17 : (a : Answer) → report a .number ≡ 17 → ⊥
 unfolding report
@@ -189,7 +206,7 @@ retired-17 Finished q = omega arith
 retired-17 (Noted f place) q = omega arith
 retired-17 JobFull q = omega arith
 retired-17 Unsound q = omega arith
-retired-17 (Misfit lent) q = lent-not-17 lent q
+retired-17 (Misfit lent) q = omega (arith, lent-numbers lent)
 retired-17 WrongLines q = omega arith
 retired-17 WrongSpacing q = omega arith
 

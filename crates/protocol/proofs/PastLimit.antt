@@ -18,6 +18,7 @@ use Rattle.printer.specs.declared.Pending.the-variants.{Nothing}
 use Rattle.printer.specs.declared.Printer.{Printer}
 use Rattle.printer.specs.Bytes.{run, step}
 use Rattle.printer.specs.Commands.{reading}
+use Rattle.printer.specs.Numbers.{Report, plain}
 use Rattle.printer.specs.Machine.{Machine}
 use Rattle.printer.specs.Room.{Ready}
 use Rattle.printer.specs.Steps.{Outcome, Step, form, note, tell, tell-step}
@@ -26,6 +27,7 @@ use Rattle.printer.proofs.Keeping.{run-counts, step-counts, tell-printer}
 use Rattle.printer.proofs.Readings.{run-reading}
 use Rattle.printer.proofs.StaysSound.{opened-ready, run-ready, step-ready, tell-ready}
 use Rattle.protocol.specs.declared.Answer.the-variants.{Done, JobFull}
+use Rattle.protocol.specs.Answers.{report}
 use Rattle.protocol.specs.Calls.{Feeding, feeding, heard, limit, opening, take-bytes}
 use Rattle.protocol.specs.Protocol.{Delivery, after, answered, delivered, delivered-up-to, delivery, ends, joined, offer, on, room, used-up}
 use Rattle.protocol.proofs.Accepted.{Accepted, feeding-takes, opening-accepted}
@@ -36,15 +38,16 @@ pub all-fit : (n : ℕ) (read : List ℕ → Machine → Outcome) (job : List �
 unfolding delivered-up-to
 all-fit n read job m l = search (take-all, le-ltb)
 
-answer-of : (n l : ℕ) (t : Bool) → ltb n l ≡ t → (cond t JobFull Done ≡ JobFull ↔ n < l) × (cond t JobFull Done ≡ Done ↔ l ≤ n)
+answer-of : (n l : ℕ) (t : Bool) → ltb n l ≡ t → (report (cond t JobFull Done) ≡ plain 3 ↔ n < l) × (report (cond t JobFull Done) ≡ plain 0 ↔ l ≤ n)
+unfolding report
 answer-of n l true q =
-    ((λ _. ltb-true n l q, λ _. refl), (λ d. absurd (true≢false (sym (ap used-up d))), λ k. absurd (omega (arith, ltb-true n l q))))
+    ((λ _. ltb-true n l q, λ _. refl), (λ d. absurd (let k = ap (λ (r : Report). r .number) d in omega arith), λ k. absurd (omega (arith, ltb-true n l q))))
 answer-of n l false q =
-    ((λ d. absurd (true≢false (ap used-up d)), λ k. absurd (omega (arith, ltb-false n l q))), (λ _. ltb-false n l q, λ _. refl))
+    ((λ d. absurd (let k = ap (λ (r : Report). r .number) d in omega arith), λ k. absurd (omega (arith, ltb-false n l q))), (λ _. ltb-false n l q, λ _. refl))
 
 -- the answer is 3 exactly where there are more bytes than fit, and else 0
 pub last-answer : (n : ℕ) (read : List ℕ → Machine → Outcome) (job : List ℕ) (m : Machine)
-    → (delivered-up-to n read job m .answer ≡ JobFull ↔ n < length job) × (delivered-up-to n read job m .answer ≡ Done ↔ length job ≤ n)
+    → (report (delivered-up-to n read job m .answer) ≡ plain 3 ↔ n < length job) × (report (delivered-up-to n read job m .answer) ≡ plain 0 ↔ length job ≤ n)
 unfolding delivered-up-to
 last-answer n read job m = answer-of n (length job) (ltb n (length job)) refl
 
@@ -179,9 +182,9 @@ module _ (e : Edition) (font : List ℕ) (lines spacing : ℕ) (lent : Machine) 
       rw (a .machine) (past-limit-from (opened-ready e f (a .lines) (a .spacing)) refl font (a .font) pieces)
 
   -- the last answer is 3 exactly where the job has more bytes
-  pub full-past-limit : delivery e (feeding e font) pieces start .answer ≡ JobFull ↔ 4294967295 < length (joined pieces)
+  pub full-past-limit : report (delivery e (feeding e font) pieces start .answer) ≡ plain 3 ↔ 4294967295 < length (joined pieces)
   full-past-limit = rw past-limit (last-answer 4294967295 (reading e font) (joined pieces) start .0)
 
   -- and 0 exactly where it has not
-  pub done-within-limit : delivery e (feeding e font) pieces start .answer ≡ Done ↔ length (joined pieces) ≤ 4294967295
+  pub done-within-limit : report (delivery e (feeding e font) pieces start .answer) ≡ plain 0 ↔ length (joined pieces) ≤ 4294967295
   done-within-limit = rw past-limit (last-answer 4294967295 (reading e font) (joined pieces) start .1)

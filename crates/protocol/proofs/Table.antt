@@ -13,12 +13,13 @@ use Rattle.sheet.specs.Edition.{lp2}
 use Rattle.sheet.specs.Form.{form-rows, lines-allowed, rows-per-line, spacing-allowed}
 use Rattle.printer.specs.Commands.{reading}
 use Rattle.printer.specs.Machine.{Machine, opened}
+use Rattle.printer.specs.Numbers.{plain}
 use Rattle.printer.specs.Table.{Case, Meets, found, start, table}
 use Rattle.printer.specs.Room.{Ready}
 use Rattle.printer.specs.Facts.{SoundHead}
 use Rattle.printer.proofs.StaysSound.{opened-ready}
 use Rattle.printer.proofs.Table.{cases}
-use Rattle.protocol.specs.declared.Answer.the-variants.{Done}
+use Rattle.protocol.specs.Answers.{report}
 use Rattle.protocol.specs.Calls.{feeding}
 use Rattle.protocol.specs.Protocol.{Delivery, delivered, delivery, joined, outcome}
 use Rattle.protocol.proofs.Cutting.{any-cutting-from}
@@ -73,7 +74,8 @@ module _ (font : List ℕ) (sized : length font ≡ 2048) where
       rw (one-piece c (t .0), found-same cs (t .1))
 
   done-all : (cs : List Case) → all-fed cs ≡ true
-      → map (λ (c : Case). whole (c .job) (start (c .row) (c .plotted)) .answer) cs ≡ map (λ (c : Case). Done) cs
+      → map (λ (c : Case). report (whole (c .job) (start (c .row) (c .plotted)) .answer)) cs ≡ map (λ (c : Case). plain 0) cs
+  unfolding report
   done-all [] q = refl
   done-all (c ∷ cs) q =
       let t = and-eq-true-iff _ _ .0 q in
@@ -84,5 +86,5 @@ module _ (font : List ℕ) (sized : length font ≡ 2048) where
   calls-meet = found-same table table-fed ∙ cases .by-commands font
 
   -- and the last answer of each is 0
-  pub calls-done : map (λ (c : Case). whole (c .job) (start (c .row) (c .plotted)) .answer) table ≡ map (λ (c : Case). Done) table
+  pub calls-done : map (λ (c : Case). report (whole (c .job) (start (c .row) (c .plotted)) .answer)) table ≡ map (λ (c : Case). plain 0) table
   calls-done = done-all table table-fed

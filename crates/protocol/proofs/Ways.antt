@@ -1,18 +1,23 @@
 -- What each way through opening and feeding comes to.
 use Prim.Native.Nat.{ℕ}
-use mathlib.Core.Bool.{true, false}
-use mathlib.Core.List.{List}
-use mathlib.Core.Path.{_≡_}
+use mathlib.Core.Bool.{Bool, true, false, cond, true≢false}
+use mathlib.Core.List.{List, []}
+use mathlib.Core.Path.{_≡_, refl, ap, sym, _∙_}
 use Rattle.sheet.specs.declared.Form.{Form}
 use Rattle.sheet.specs.Edition.{Edition}
 use Rattle.sheet.specs.Form.{lines-allowed, spacing-allowed}
-use Rattle.printer.specs.Machine.{Machine, opened}
+use Rattle.printer.specs.Machine.{Machine, opened, shut, with-printer}
+use Rattle.printer.specs.Room.{Sized}
 use Rattle.printer.specs.Sound.{sound}
+use Rattle.protocol.specs.declared.Answer.{Answer}
 use Rattle.protocol.specs.declared.Answer.the-variants.{Done, Misfit, Unsound, WrongLines, WrongSpacing}
 use Rattle.protocol.specs.declared.Fit.{Fit}
 use Rattle.protocol.specs.declared.Fit.the-variants.{Right, Wrong}
 use Rattle.protocol.specs.declared.Lent.{Lent}
-use Rattle.protocol.specs.Calls.{feed-fitted, feeding, fit, open-fitted, opening, stopped, unopened}
+use Rattle.protocol.specs.Answers.{refusal}
+use Rattle.protocol.specs.Calls.{Opening, feed-fitted, feeding, fit, open-fitted, opening, stopped, take-bytes, unopened}
+use Rattle.protocol.proofs.Accepted.{right-fitting}
+use Rattle.protocol.proofs.Answering.{opening-refused, taking-heeds}
 
 module _ (e : Edition) (lines spacing : ℕ) (font : List ℕ) (m : Machine) where
   abbrev form : Form
@@ -37,6 +42,31 @@ module _ (e : Edition) (lines spacing : ℕ) (font : List ℕ) (m : Machine) whe
     unfolding opening open-fitted
     open-done is r = rw (l, s, ← is, r)
 
+  -- what is refused, by the answer alone
+  pub open-refused : {a : Answer} → a ≡ opening e lines spacing font m .answer → refusal a ≡ true → unopened a m ≡ opening e lines spacing font m
+  open-refused {a} is r =
+      let o : Opening = opening e lines spacing font m in
+      let shuts : o .machine ≡ with-printer shut m = opening-refused e lines spacing font m (ap refusal (sym is) ∙ r) in
+      ap (λ (x : Answer). unopened x m) is ∙ ap (λ (x : Machine). record { answer = o .answer; machine = x }) (sym shuts)
+
+  -- what is not: all fits, and the job is open
+  pub record Admitted : Type 0 where
+    pub memory : Sized e form (m .page) (m .line) (m .staging) (m .store)
+    pub opens : record { answer = Done; machine = opened e form } ≡ opening e lines spacing font m
+
+  admitted-by : (l s : Bool) (t : Fit) → lines-allowed e lines ≡ l → spacing-allowed spacing ≡ s → fit e form font m ≡ t
+      → refusal (cond l (cond s (open-fitted e form t m) (unopened WrongSpacing m)) (unopened WrongLines m) .answer) ≡ false → Admitted
+  unfolding open-fitted refusal
+  admitted-by true true Right l s t r =
+      record { memory = right-fitting e form font m (sym t) refl .memory; opens = open-done l s (sym t) refl }
+  admitted-by true true (Wrong lent) l s t r = absurd (true≢false r)
+  admitted-by true false f l s t r = absurd (true≢false r)
+  admitted-by false x f l s t r = absurd (true≢false r)
+
+  pub open-admitted : {a : Answer} → a ≡ opening e lines spacing font m .answer → refusal a ≡ false → Admitted
+  unfolding opening
+  open-admitted is r = admitted-by (lines-allowed e lines) (spacing-allowed spacing) (fit e form font m) refl refl refl (ap refusal (sym is) ∙ r)
+
 module _ (e : Edition) (font piece : List ℕ) (m : Machine) where
   pub feed-unsound : sound e (m .printer) ≡ false → stopped Unsound m ≡ feeding e font piece m
   unfolding feeding
@@ -46,3 +76,22 @@ module _ (e : Edition) (font piece : List ℕ) (m : Machine) where
       → stopped (Misfit lent) m ≡ feeding e font piece m
   unfolding feeding feed-fitted
   feed-misfit s is w = rw (s, ← is, w)
+
+  -- what is refused is refused whatever the piece, and with an empty one nothing else happens
+  feed-by : (s : Bool) (t : Fit) → sound e (m .printer) ≡ s → fit e (m .printer .form) font m ≡ t
+      → (feeding e font [] m .machine ≡ m)
+      × (refusal (feeding e font piece m .answer) ≡ refusal (feeding e font [] m .answer))
+      × (refusal (feeding e font [] m .answer) ≡ true → feeding e font piece m ≡ feeding e font [] m)
+  unfolding feeding feed-fitted take-bytes refusal
+  feed-by true Right s t = rw (s, t) (refl, taking-heeds e font piece m, λ q. absurd (true≢false (sym q)))
+  feed-by true (Wrong lent) s t = rw (s, t) (refl, refl, λ q. refl)
+  feed-by false f s t = rw s (refl, refl, λ q. refl)
+
+  pub feed-nothing : feeding e font [] m .machine ≡ m
+  feed-nothing = feed-by (sound e (m .printer)) (fit e (m .printer .form) font m) refl refl .0
+
+  pub refused-alike : refusal (feeding e font piece m .answer) ≡ refusal (feeding e font [] m .answer)
+  refused-alike = feed-by (sound e (m .printer)) (fit e (m .printer .form) font m) refl refl .1
+
+  pub refused-same : refusal (feeding e font [] m .answer) ≡ true → feeding e font piece m ≡ feeding e font [] m
+  refused-same = feed-by (sound e (m .printer)) (fit e (m .printer .form) font m) refl refl .2

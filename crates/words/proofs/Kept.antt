@@ -3,7 +3,7 @@ use Prim.Native.Nat.{ℕ, _≤_}
 use mathlib.Core.Bool.{Bool, true, false, _&&_}
 use mathlib.Core.List.{List}
 use mathlib.Core.Path.{_≡_, refl}
-use borrow.Author.Tests.{le-leb}
+use borrow.Author.Tests.{eq-eqb, le-leb}
 use lib.Dec.{eqb, leb}
 use lib.ListN.{getD, length}
 use Rattle.sheet.specs.declared.Pitch.{Pitch}
@@ -11,7 +11,8 @@ use Rattle.sheet.specs.declared.Pitch.the-variants.{Normal, Compressed}
 use Rattle.printer.specs.declared.Pending.{Pending}
 use Rattle.printer.specs.declared.Pending.the-variants.{Nothing, Escape, Tabs, Reset, Select, SelectLow, CountHigh, CountLow, AddressHigh, AddressLow, Payload}
 use Rattle.printer.specs.declared.Printer.{Printer}
-use Rattle.words.specs.Words.{Ranged, at-most, is-state, part, pending-of, pending-words, pitch-of, pitch-word, state-of, state-words, truth}
+use Rattle.words.specs.Words.{Ranged, at-most, in-range, is-state, part, pending-of, pending-words, pitch-of, pitch-word, state-of}
+use Rattle.words.specs.Words.{state-size, state-words, truth}
 
 truth-kept : (b : Bool) → eqb (truth b) 1 ≡ b
 unfolding truth
@@ -59,7 +60,7 @@ pub state-kept : (p : Printer) → state-of (state-words p) ≡ p
 unfolding state-of state-words
 state-kept p = simp (truth-kept, pitch-kept, pending-kept)
 
-pub twenty-words : (p : Printer) → length (state-words p) ≡ 20
+pub twenty-words : (p : Printer) → length (state-words p) ≡ state-size
 unfolding state-words
 twenty-words p = simp six-words
 
@@ -93,7 +94,11 @@ in-six (AddressHigh place count) h = simp (le-leb _ _ (h .0), le-leb _ _ (h .1))
 in-six (AddressLow place count high) h = simp (le-leb _ _ (h .0), le-leb _ _ (h .1), le-leb _ _ (h .2))
 in-six (Payload place l) h = simp (le-leb _ _ (h .0), le-leb _ _ (h .1), le-leb _ _ (h .2), le-leb _ _ (h .3), le-leb _ _ (h .4))
 
+put-in-range : (p : Printer) → p .job ≤ 4294967295 → Ranged (p .pending) → in-range (state-words p) ≡ true
+unfolding in-range state-words at-most
+put-in-range p j h = simp (le-leb _ _ j, truth-small, pitch-small) (in-six (p .pending) h)
+
 -- what was put together is a state
 pub put-is-state : (p : Printer) → p .job ≤ 4294967295 → Ranged (p .pending) → is-state (state-words p) ≡ true
-unfolding is-state state-words at-most
-put-is-state p j h = simp (le-leb _ _ j, truth-small, pitch-small) (in-six (p .pending) h)
+unfolding is-state
+put-is-state p j h = simp (eq-eqb _ _ (twenty-words p)) (put-in-range p j h)

@@ -4,11 +4,11 @@ use mathlib.Core.Bool.{Bool, true, false, _&&_, and-eq-true-iff}
 use mathlib.Core.List.{List}
 use mathlib.Core.Path.{_≡_, ap, sym, _∙_}
 use native.Mathlib.Omega.{arith}
-use borrow.Author.Tests.{le-leb, leb-true, lt-leb}
-use lib.Dec.{leb}
+use borrow.Author.Tests.{eqb-true, le-leb, leb-true, lt-leb}
+use lib.Dec.{eqb, leb}
 use lib.ListN.{drop, getD, length, take}
 use lib.Seq.{drop-cons}
-use Rattle.words.specs.Words.{at-most, is-state, part}
+use Rattle.words.specs.Words.{at-most, in-range, is-state, part, state-size}
 
 -- one word more of a part
 part-turn : (m k n : ℕ) (ws : List ℕ) → k < length ws
@@ -69,12 +69,19 @@ pub record InRange (ws : List ℕ) : Type 0 where
   pub address : getD ws 18 0 ≤ 65535
   pub taken : getD ws 19 0 ≤ 65535
 
-pub in-range : (ws : List ℕ) → length ws ≡ 20 → is-state ws ≡ true → InRange ws
+-- the two halves of a state: it has its twenty words, and they are in range
+pub state-halves : (ws : List ℕ) → is-state ws ≡ true → (length ws ≡ state-size) × (in-range ws ≡ true)
 unfolding is-state
-in-range ws l q =
+state-halves ws q =
+    let h = and-eq-true-iff (eqb (length ws) state-size) (in-range ws) .0 q in
+    (eqb-true _ _ (h .0), h .1)
+
+pub ranges : (ws : List ℕ) → length ws ≡ state-size → in-range ws ≡ true → InRange ws
+unfolding in-range
+ranges ws l r =
     let small : ℕ → ℕ → ℕ → Bool = λ m k n. at-most m (part k n ws) in
     let held =
-    each (small 4294967295 2 1) (small 1 5 7) (small 10 14 1) (small 4294967295 15 1) (small 255 16 1) (small 65535 17 3) q in
+    each (small 4294967295 2 1) (small 1 5 7) (small 10 14 1) (small 4294967295 15 1) (small 255 16 1) (small 65535 17 3) r in
     let x = first 65535 17 2 ws (omega arith) (held .5) in
     let y = first 65535 18 1 ws (omega arith) (x .1) in
     let z = first 65535 19 0 ws (omega arith) (y .1) in

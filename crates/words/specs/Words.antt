@@ -4,7 +4,7 @@ use Prim.Native.Nat.{ℕ, _≤_}
 use mathlib.Core.Bool.{Bool, true, cond, _&&_}
 use mathlib.Core.List.{List, [], _∷_}
 use lib.Dec.{eqb, leb}
-use lib.ListN.{drop, getD, take}
+use lib.ListN.{drop, getD, length, take}
 use Rattle.sheet.specs.declared.Pitch.{Pitch}
 use Rattle.sheet.specs.declared.Pitch.the-variants.{Normal, Compressed}
 use Rattle.printer.specs.declared.Pending.{Pending}
@@ -35,6 +35,10 @@ pending-words (AddressHigh place count) = 8 ∷ place ∷ 0 ∷ count ∷ 0 ∷ 
 pending-words (AddressLow place count high) = 9 ∷ place ∷ high ∷ count ∷ 0 ∷ 0 ∷ []
 pending-words (Payload place l) = 10 ∷ place ∷ l .sum ∷ l .count ∷ l .address ∷ l .taken ∷ []
 
+-- how many words a state has
+abbrev pub state-size : ℕ
+state-size = 20
+
 -- a state put into words
 unfoldable pub state-words : Printer → List ℕ
 state-words p =
@@ -63,15 +67,19 @@ at-most m (w ∷ ws) = leb w m && at-most m ws
 abbrev pub part : ℕ → ℕ → List ℕ → List ℕ
 part k n ws = take n (drop k ws)
 
--- twenty words are a state where each number has its range; a number that has none but the word's own is a state's whatever it is
-unfoldable pub is-state : List ℕ → Bool
-is-state ws =
+-- each number of a state has its range; one that has none but the word's own is a state's whatever it is
+unfoldable pub in-range : List ℕ → Bool
+in-range ws =
     at-most 4294967295 (part 2 1 ws)
     && at-most 1 (part 5 7 ws)
     && at-most 10 (part 14 1 ws)
     && at-most 4294967295 (part 15 1 ws)
     && at-most 255 (part 16 1 ws)
     && at-most 65535 (part 17 3 ws)
+
+-- words are a state: as many as a state has, each in range
+unfoldable pub is-state : List ℕ → Bool
+is-state ws = eqb (length ws) state-size && in-range ws
 
 unfoldable pub pitch-of : ℕ → Pitch
 pitch-of w = cond (eqb w 1) Compressed Normal

@@ -4,7 +4,8 @@ ghost use mathlib.Core.Bool.{true};
 ghost use mathlib.Core.List.{[], _∷_, _++_};
 ghost use Prim.Native.Nat.{_+_, _≤_};
 ghost use lib.ListN.{length, take};
-ghost use Rattle.words.specs.Words.{Ranged, at-most, is-state, part, pending-of, pending-words, pitch-of, pitch-word, state-of, state-words, truth};
+ghost use Rattle.words.specs.Words.{Ranged, at-most, in-range, is-state, part, pending-of, pending-words, pitch-of, pitch-word, state-of};
+ghost use Rattle.words.specs.Words.{state-size, state-words, truth};
 use printer::Head;
 use printer::Load;
 use printer::Pending;
@@ -15,6 +16,9 @@ use sheet::Form;
 use sheet::Pitch;
 use sheet::counts::row;
 use sheet::counts::rows_above;
+
+// How many words a state has.
+pub const STATE_WORDS: usize = 20;
 
 fn truth(on: bool) -> u64
     ensures { λ r. ⌜ r ≡ truth on ⌝ }
@@ -77,7 +81,7 @@ fn put_pending(state: &mut [u64], pending: Pending)
 
 // Puts a state into words, which are then a state.
 pub fn put(state: &mut [u64], p: Printer)
-    requires { ⌜ length (now state) ≡ 20 ⌝ }
+    requires { ⌜ length (now state) ≡ state-size ⌝ }
     ensures { λ _. ⌜ now (state .exit) ≡ state-words p ⌝ }
     ensures { λ _. ⌜ is-state (now (state .exit)) ≡ true ⌝ }
 {
@@ -119,10 +123,10 @@ fn at_most(state: &[u64], k: usize, n: usize, m: u64) -> bool
     true
 }
 
-// Whether words are a state.
-pub fn is_state(state: &[u64]) -> bool
-    requires { ⌜ length (now state) ≡ 20 ⌝ }
-    ensures { λ r. ⌜ r ≡ is-state (now (state .entry)) ⌝ }
+// Whether each word of a state is in the range of its number.
+fn in_range(state: &[u64]) -> bool
+    requires { ⌜ length (now state) ≡ state-size ⌝ }
+    ensures { λ r. ⌜ r ≡ in-range (now (state .entry)) ⌝ }
 {
     if !at_most(state, 2, 1, 4294967295) {
         return false;
@@ -140,6 +144,16 @@ pub fn is_state(state: &[u64]) -> bool
         return false;
     }
     at_most(state, 17, 3, 65535)
+}
+
+// Whether words are a state.
+pub fn is_state(state: &[u64]) -> bool
+    ensures { λ r. ⌜ r ≡ is-state (now (state .entry)) ⌝ }
+{
+    if state.len() != STATE_WORDS {
+        return false;
+    }
+    in_range(state)
 }
 
 // A word as a count.
@@ -209,7 +223,7 @@ fn pending_of(kind: u64, place: u32, byte: u8, count: u16, address: u16, taken: 
 
 // The state that words hold.
 pub fn state_of(state: &[u64]) -> Printer
-    requires { ⌜ (length (now state) ≡ 20) × (is-state (now state) ≡ true) ⌝ }
+    requires { ⌜ (length (now state) ≡ state-size) × (in-range (now state) ≡ true) ⌝ }
     ensures { λ r. ⌜ r ≡ state-of (now (state .entry)) ⌝ }
 {
     let form = Form {

@@ -1,84 +1,17 @@
--- `is_state`: each test that holds leaves what the later ones say; the first that fails makes the whole false.
-mod Places
+-- `is_state`: another number of words fails the first test; for twenty the ranges decide.
 use borrow.Author.Needs.{needs}
-use mathlib.Core.Bool.{true}
-use mathlib.Core.Path.{_≡_, sym, _∙_}
-use borrow.Author.Tests.{not-false, not-true}
-use Rattle.words.specs.Words.{at-most, is-state, part}
+use borrow.Author.Tests.{eq-eqb, ne-eqb}
+use Rattle.words.specs.Words.{is-state, state-size}
 use Rattle.words.proofs.is_state.Statement.{statement}
 use Rattle.words.proofs.is_state.Tie as tie
-use Places.*
-
-held1 : (c : tie.Else1) → at-most 4294967295 (part 2 1 (c .before .before .before .args .state .now)) ≡ true
-held1 c = sym (c .before .at-most .ensures) ∙ not-false (c .before .at-most .result) (c .if1 .left)
-
-held2 : (c : tie.Else2) → at-most 1 (part 5 7 (start-at-else2 c .args .state .now)) ≡ true
-held2 c = sym (c .before .at-most2 .ensures) ∙ not-false (c .before .at-most2 .result) (c .if2 .left)
-
-held3 : (c : tie.Else3) → at-most 10 (part 14 1 (start-at-else3 c .args .state .now)) ≡ true
-held3 c = sym (c .before .at-most3 .ensures) ∙ not-false (c .before .at-most3 .result) (c .if3 .left)
-
-held4 : (c : tie.Else4) → at-most 4294967295 (part 15 1 (start-at-else4 c .args .state .now)) ≡ true
-held4 c = sym (c .before .at-most4 .ensures) ∙ not-false (c .before .at-most4 .result) (c .if4 .left)
-
-held5 : (c : tie.Else5) → at-most 255 (part 16 1 (start-at-else5 c .args .state .now)) ≡ true
-held5 c = sym (c .before .at-most5 .ensures) ∙ not-false (c .before .at-most5 .result) (c .if5 .left)
 
 returns : tie.Need-returns
 unfolding is-state
-returns c = simp (← c .before .at-most .ensures, not-true (c .before .at-most .result) (c .if1 .taken))
+returns c = simp (ne-eqb _ state-size (c .if1 .taken))
 
 returns-2 : tie.Need-returns-2
 unfolding is-state
-returns-2 c = simp (held1 (c .before .before), ← c .before .at-most2 .ensures, not-true (c .before .at-most2 .result) (c .if2 .taken))
-
-returns-3 : tie.Need-returns-3
-unfolding is-state
-returns-3 c =
-    simp (
-      held1 (else1-at-returns-3 c),
-      held2 (c .before .before),
-      ← c .before .at-most3 .ensures,
-      not-true (c .before .at-most3 .result) (c .if3 .taken),
-    )
-
-returns-4 : tie.Need-returns-4
-unfolding is-state
-returns-4 c =
-    simp (
-      held1 (else1-at-returns-4 c),
-      held2 (else2-at-returns-4 c),
-      held3 (c .before .before),
-      ← c .before .at-most4 .ensures,
-      not-true (c .before .at-most4 .result) (c .if4 .taken),
-    )
-
-returns-5 : tie.Need-returns-5
-unfolding is-state
-returns-5 c =
-    simp (
-      held1 (else1-at-returns-5 c),
-      held2 (else2-at-returns-5 c),
-      held3 (else3-at-returns-5 c),
-      held4 (c .before .before),
-      ← c .before .at-most5 .ensures,
-      not-true (c .before .at-most5 .result) (c .if5 .taken),
-    )
-
-returns-6 : tie.Need-returns-6
-unfolding is-state
-returns-6 c =
-    simp (
-      held1 (else1-at-returns-6 c),
-      held2 (else2-at-returns-6 c),
-      held3 (else3-at-returns-6 c),
-      held4 (else4-at-returns-6 c),
-      held5 (c .before),
-      ← c .at-most6 .ensures,
-    )
+returns-2 c = simp (eq-eqb _ state-size (c .before .if1 .left), ← c .in-range .ensures)
 
 pub is-state-spec : {M : Type 1} → statement M
-is-state-spec =
-    tie.close
-    (tie.spec (λ c κs. search needs) returns (λ c κs. search needs) returns-2 (λ c κs. search needs) returns-3 (λ c κs. search needs) returns-4
-    (λ c κs. search needs) returns-5 (λ c κs. search needs) returns-6)
+is-state-spec = tie.close (tie.spec returns (λ c κs. search needs) returns-2)

@@ -3,32 +3,32 @@ mod Places
 use borrow.Author.Needs.{needs}
 use mathlib.Core.Path.{ap, _∙_}
 use Rattle.sheet.specs.Form.{row}
-use Rattle.words.proofs.Ranges.{InRange, in-range}
+use Rattle.words.proofs.Ranges.{InRange, ranges}
 use Rattle.words.proofs.Reading.{read-state}
 use Rattle.words.proofs.state_of.Statement.{statement}
 use Rattle.words.proofs.state_of.Tie as tie
 use Places.*
 
-ranges : (c : tie.Start) → InRange (c .args .state .now)
-ranges c = in-range (c .args .state .now) (c .pre .0) (c .pre .1)
+held : (c : tie.Start) → InRange (c .args .state .now)
+held c = ranges (c .args .state .now) (c .pre .0) (c .pre .1)
 
 place-requires : tie.Need-place-requires
-place-requires c κs = ranges (start-at-place-requires c) .place
+place-requires c κs = held (start-at-place-requires c) .place
 
 byte-requires : tie.Need-byte-requires
-byte-requires c κs = ranges (start-at-byte-requires c) .byte
+byte-requires c κs = held (start-at-byte-requires c) .byte
 
 half-requires : tie.Need-half-requires
-half-requires c κs = ranges (start-at-half-requires c) .count
+half-requires c κs = held (start-at-half-requires c) .count
 
 half-requires-2 : tie.Need-half-requires-2
-half-requires-2 c κs = ranges (start-at-half-requires-2 c) .address
+half-requires-2 c κs = held (start-at-half-requires-2 c) .address
 
 half-requires-3 : tie.Need-half-requires-3
-half-requires-3 c κs = ranges (start-at-half-requires-3 c) .taken
+half-requires-3 c κs = held (start-at-half-requires-3 c) .taken
 
 place-requires-2 : tie.Need-place-requires-2
-place-requires-2 c κs = ranges (start-at-place-requires-2 c) .job
+place-requires-2 c κs = held (start-at-place-requires-2 c) .job
 
 returns : tie.Need-returns
 returns c =

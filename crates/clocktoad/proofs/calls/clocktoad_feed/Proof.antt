@@ -1,5 +1,5 @@
--- `calls::clocktoad_feed`: each test that is passed is known from there on; what fails one is answered by its number alone, and what passes all is
--- fed, kept and told as `feed` gives it, but for a refusal, which writes neither state nor report.
+-- `calls::clocktoad_feed`: what is no state is 10; with a report of the wrong length nothing is fed; what passes both is fed, kept and told as `feed`
+-- gives it, but for a refusal, which writes neither state nor report.
 mod Places
 use borrow.Author.Needs.{needs}
 use Prim.Native.Nat.{ℕ}
@@ -8,11 +8,14 @@ use mathlib.Core.List.{List}
 use mathlib.Core.Path.{_≡_, sym, _∙_}
 use borrow.Author.Tests.{not-false, not-true}
 use lib.ListN.{length}
+use Rattle.printer.specs.Given.{machine}
+use Rattle.printer.specs.Machine.{Machine}
 use Rattle.protocol.specs.Calls.{Feeding}
 use Rattle.protocol.specs.Given.{given-feeding}
-use Rattle.clocktoad.specs.Calls.{feeding-words}
+use Rattle.clocktoad.specs.Calls.{feeding-words, report-size}
 use Rattle.words.specs.Words.{is-state}
-use Rattle.clocktoad.proofs.Calling.{Lent, at-feed, fed-on, fed-refused, feed-10, feed-21, feed-22, feeds}
+use Rattle.words.proofs.Ranges.{state-halves}
+use Rattle.clocktoad.proofs.Calling.{Lent, at-feed, fed-on, fed-refused, feed-10, feed-unreported, feeds}
 use Rattle.clocktoad.proofs.calls.clocktoad_feed.Statement.{statement}
 use Rattle.clocktoad.proofs.calls.clocktoad_feed.Tie as tie
 use Places.*
@@ -28,14 +31,12 @@ piece s = s .args .piece .now
 abbrev told : tie.Start → List ℕ
 told s = s .args .report .now
 
-state-right : (c : tie.Else1) → length (lent (start-at-else1 c) .state) ≡ 20
-state-right c = c .if1 .left
+-- past the first test the words are a state, past the second the report has its length
+held : (c : tie.Else1) → is-state (lent (start-at-else1 c) .state) ≡ true
+held c = sym (c .before .is-state .ensures) ∙ not-false (c .before .is-state .result) (c .if1 .left)
 
-report-right : (c : tie.Else2) → length (told (start-at-else2 c)) ≡ 4
+report-right : (c : tie.Else2) → length (told (start-at-else2 c)) ≡ report-size
 report-right c = c .if2 .left
-
-held : (c : tie.Else3) → is-state (lent (start-at-else3 c) .state) ≡ true
-held c = sym (c .before .is-state .ensures) ∙ not-false (c .before .is-state .result) (c .if3 .left)
 
 -- what `feed` gave back; its first two arguments are the state and the piece
 abbrev fed : tie.After-feed → Feeding
@@ -45,48 +46,58 @@ fed-as-asked : (c : tie.After-feed)
     → let s = start-at-feed c in feeding-words (fed c) (lent s .state) (told s) ≡ at-feed (lent s) (piece s) (told s)
 fed-as-asked c =
     let s = start-at-feed c in
-    feeds (lent s) (piece s) (told s) (state-right (else1-at-feed c)) (report-right (else2-at-feed c)) (fed c) (held (else3-at-feed c))
-    (state-of-at-feed c .state-of .ensures) (c .feed .ensures)
+    feeds (lent s) (piece s) (told s) (held (else1-at-feed c)) (state-of2-at-feed c .state-of2 .ensures) (fed c) (report-right (else2-at-feed c))
+    (c .feed .ensures)
+
+-- what is left where the report has the wrong length; the first argument is the state
+abbrev unfed : tie.After-unreported → Machine
+unfed c =
+    let m = c .unreported .last .1 in
+    machine (state-of-at-unreported c .state-of .result) (m .0) (m .1 .0) (m .1 .1 .0) (m .1 .1 .1 .0)
 
 returns : tie.Need-returns
-returns c = let s = start-at-returns c in feed-21 (lent s) (piece s) (told s) (c .if1 .taken)
+returns c =
+    let s = start-at-returns c in
+    feed-10 (lent s) (piece s) (told s) (sym (c .before .is-state .ensures) ∙ not-true (c .before .is-state .result) (c .if1 .taken))
+
+state-of-requires : tie.Need-state-of-requires
+state-of-requires c κs = state-halves _ (held (else1-at-state-of-requires c))
 
 returns-2 : tie.Need-returns-2
-returns-2 c = let s = start-at-returns-2 c in feed-22 (lent s) (piece s) (told s) (state-right (c .before)) (c .if2 .taken)
+returns-2 c =
+    let s = start-at-returns-2 c in
+    let u = unreported-at-returns-2 c in
+    feed-unreported (lent s) (piece s) (told s) (held (else1-at-returns-2 c)) (state-of-at-unreported u .state-of .ensures) (unfed u)
+    (then2-at-returns-2 c .if2 .taken) (u .unreported .ensures .0 (piece s)) (u .unreported .ensures .1)
+
+state-of-requires-2 : tie.Need-state-of-requires-2
+state-of-requires-2 c κs = state-halves _ (held (else1-at-state-of-requires-2 c))
 
 returns-3 : tie.Need-returns-3
 returns-3 c =
     let s = start-at-returns-3 c in
-    feed-10 (lent s) (piece s) (told s) (state-right (else1-at-returns-3 c)) (report-right (c .before .before .before))
-    (sym (c .before .is-state .ensures) ∙ not-true (c .before .is-state .result) (c .if3 .taken))
+    let f = feed-at-returns-3 c in
+    fed-refused (lent s) (piece s) (told s) (fed f) (fed-as-asked f) (c .answer-number .ensures) (c .before .before .refusal .ensures) (c .before .if3 .taken)
 
-state-of-requires : tie.Need-state-of-requires
-state-of-requires c κs = (state-right (else1-at-state-of-requires c), held (c .before))
+put-requires : tie.Need-put-requires
+put-requires c κs = state-halves _ (held (else1-at-put-requires c)) .0
+
+tell-requires : tie.Need-tell-requires
+tell-requires c κs = report-right (else2-at-tell-requires c)
 
 returns-4 : tie.Need-returns-4
 returns-4 c =
     let s = start-at-returns-4 c in
     let f = feed-at-returns-4 c in
-    fed-refused (lent s) (piece s) (told s) (fed f) (fed-as-asked f) (c .answer-number .ensures) (c .before .before .refusal .ensures) (c .before .if4 .taken)
-
-put-requires : tie.Need-put-requires
-put-requires c κs = state-right (else1-at-put-requires c)
-
-tell-requires : tie.Need-tell-requires
-tell-requires c κs = report-right (else2-at-tell-requires c)
-
-returns-5 : tie.Need-returns-5
-returns-5 c =
-    let s = start-at-returns-5 c in
-    let f = feed-at-returns-5 c in
-    fed-on (lent s) (piece s) (told s) (fed f) (fed-as-asked f) (c .answer-number2 .ensures) (refusal-at-returns-5 c .refusal .ensures)
-    (else4-at-returns-5 c .if4 .left) (put-at-returns-5 c .put .ensures) (c .before .before .before .tell .ensures)
-    (noted-number-at-returns-5 c .noted-number .ensures) (noted-place-at-returns-5 c .noted-place .ensures)
+    fed-on (lent s) (piece s) (told s) (fed f) (fed-as-asked f) (c .answer-number2 .ensures) (refusal-at-returns-4 c .refusal .ensures)
+    (else3-at-returns-4 c .if3 .left) (put-at-returns-4 c .put .ensures) (c .before .before .before .tell .ensures)
+    (noted-number-at-returns-4 c .noted-number .ensures) (noted-place-at-returns-4 c .noted-place .ensures)
 
 pub clocktoad-feed-spec : {M : Type 1} → statement M
 clocktoad-feed-spec =
     tie.close
-    (tie.spec returns returns-2 (λ c κs. search needs) (λ c. search needs) returns-3 state-of-requires (λ c κs. search needs) (λ c κs. search needs)
-    (λ c κs. search needs) (λ c. search needs) (λ c. search needs) (λ c. search needs) (λ c. search needs) (λ c. search needs) returns-4 put-requires
+    (tie.spec (λ c κs. search needs) (λ c. search needs) returns state-of-requires (λ c κs. search needs) (λ c. search needs) (λ c. search needs)
+    (λ c. search needs) (λ c. search needs) (λ c. search needs) returns-2 state-of-requires-2 (λ c κs. search needs) (λ c κs. search needs)
+    (λ c κs. search needs) (λ c. search needs) (λ c. search needs) (λ c. search needs) (λ c. search needs) (λ c. search needs) returns-3 put-requires
     (λ c κs. search needs) (λ c κs. search needs) tell-requires (λ c κs. search needs) (λ c. search needs) (λ c. search needs) (λ c. search needs)
-    (λ c. search needs) (λ c. search needs) (λ c. search needs) returns-5)
+    (λ c. search needs) (λ c. search needs) (λ c. search needs) returns-4)

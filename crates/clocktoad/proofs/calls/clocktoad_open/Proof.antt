@@ -1,10 +1,11 @@
--- `calls::clocktoad_open`: a state of the right length gets the words of what `open` gives back, which are a state; of a wrong one nothing is touched.
+-- `calls::clocktoad_open`: a state of the right length gets the words of what `open` gives back, which are a state; with a wrong one nothing is
+-- written, and what opening refuses besides is answered first.
 mod Places
 use borrow.Author.Needs.{needs}
 use Rattle.printer.specs.Machine.{shut}
 use Rattle.protocol.specs.Calls.{Opening}
 use Rattle.protocol.specs.Given.{given-opening}
-use Rattle.clocktoad.proofs.Calling.{Lent, open-21, opens}
+use Rattle.clocktoad.proofs.Calling.{Lent, open-unkept, opens}
 use Rattle.clocktoad.proofs.calls.clocktoad_open.Statement.{statement}
 use Rattle.clocktoad.proofs.calls.clocktoad_open.Tie as tie
 use Places.*
@@ -19,7 +20,9 @@ abbrev opened : tie.After-open → Opening
 opened c = let m = c .«open» .last .1 .1 in given-opening (c .«open» .result) (m .0) (m .1 .0) (m .1 .1 .0) (m .1 .1 .1 .0)
 
 returns : tie.Need-returns
-returns c = let s = start-at-returns c in open-21 (s .args .lines) (s .args .spacing) (lent s) (c .if1 .taken)
+returns c =
+    let s = start-at-returns c in
+    open-unkept (s .args .lines) (s .args .spacing) (lent s) (then1-at-returns c .if1 .taken) (c .refused-or .ensures) (c .before .admit .ensures shut)
 
 returns-2 : tie.Need-returns-2
 returns-2 c =
@@ -31,5 +34,6 @@ returns-2 c =
 pub clocktoad-open-spec : {M : Type 1} → statement M
 clocktoad-open-spec =
     tie.close
-    (tie.spec returns (λ c κs. search needs) (λ c κs. search needs) (λ c κs. search needs) (λ c. search needs) (λ c. search needs) (λ c. search needs)
+    (tie.spec (λ c κs. search needs) (λ c κs. search needs) (λ c. search needs) (λ c. search needs) (λ c. search needs) (λ c. search needs) returns
+    (λ c κs. search needs) (λ c κs. search needs) (λ c κs. search needs) (λ c. search needs) (λ c. search needs) (λ c. search needs)
     (λ c. search needs) (λ c. search needs) returns-2)

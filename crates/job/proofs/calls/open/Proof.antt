@@ -1,13 +1,8 @@
--- `calls::open` meets its contract: lines, spacing and lengths are tested in this order, the first that is wrong is answered with the shut state, and
--- what passes all starts a job.
+-- `calls::open`: what is refused is answered with the shut state, over the memory as it was lent; what is not starts a job.
 mod Places
 use borrow.Author.Needs.{needs}
-use mathlib.Core.Bool.{and-eq-true-iff, true}
 use mathlib.Core.Path.{_≡_, ap, sym, _∙_}
-use borrow.Author.Tests.{leb-true, not-false, not-true}
-use lib.Dec.{leb}
 use Rattle.sheet.specs.Edition.{lp2}
-use Rattle.sheet.specs.Form.{lines-allowed, spacing-allowed}
 use Rattle.printer.specs.declared.Printer.{Printer}
 use Rattle.printer.specs.Given.{machine}
 use Rattle.printer.specs.Machine.{Machine, shut}
@@ -15,8 +10,7 @@ use Rattle.protocol.specs.declared.Answer.{Answer}
 use Rattle.protocol.specs.declared.Opened.{Opened}
 use Rattle.protocol.specs.Calls.{unopened}
 use Rattle.protocol.specs.Given.{given-opening}
-use Rattle.protocol.proofs.Accepted.{right-fitting}
-use Rattle.protocol.proofs.Ways.{open-done, open-lines, open-misfit, open-spacing}
+use Rattle.protocol.proofs.Ways.{Admitted, open-admitted, open-refused}
 use Rattle.job.proofs.calls.open.Statement.{statement}
 use Rattle.job.proofs.calls.open.Tie as tie
 use Places.*
@@ -25,56 +19,35 @@ use Places.*
 abbrev lent : tie.Start → Printer → Machine
 lent c p = let a = c .args in machine p (a .page .now) (a .line .now) (a .staging .now) (a .store .now)
 
--- past the first test the lines are in range, past the second the spacing is
-lines-right : (c : tie.Else1) → lines-allowed lp2 (start-at-else1 c .args .lines) ≡ true
-lines-right c = sym (c .before .lines-allowed .ensures) ∙ not-false (c .before .lines-allowed .result) (c .if1 .left)
-
-spacing-right : (c : tie.Else2) → spacing-allowed (start-at-else2 c .args .spacing) ≡ true
-spacing-right c = sym (c .before .spacing-allowed .ensures) ∙ not-false (c .before .spacing-allowed .result) (c .if2 .left)
-
 -- a refused opening, over the memory as it was lent
 shut-with : (c : tie.Start) {o : Opened} {answer : Answer} → o ≡ record { printer = shut; answer = answer }
     → let a = c .args in given-opening o (a .page .now) (a .line .now) (a .staging .now) (a .store .now) ≡ unopened answer (lent c shut)
 shut-with c q = let a = c .args in ap (λ (o : Opened). given-opening o (a .page .now) (a .line .now) (a .staging .now) (a .store .now)) q
 
+-- past the test all fits
+fits : (c : tie.Else1) (p : Printer) → let s = start-at-else1 c in
+    Admitted lp2 (s .args .lines) (s .args .spacing) (s .args .font .now) (lent s p)
+fits c p =
+    let s = start-at-else1 c in
+    open-admitted lp2 (s .args .lines) (s .args .spacing) (s .args .font .now) (lent s p)
+    (admit-at-else1 c .admit .ensures p) (sym (c .before .refusal .ensures) ∙ c .if1 .left)
+
 returns : tie.Need-returns
 returns c p =
-    shut-with (start-at-returns c) (c .unopened .ensures)
-    ∙ open-lines lp2 _ _ _ (lent (start-at-returns c) p)
-    (sym (c .before .before .lines-allowed .ensures) ∙ not-true (c .before .before .lines-allowed .result) (c .before .if1 .taken))
-
-returns-2 : tie.Need-returns-2
-returns-2 c p =
-    shut-with (start-at-returns-2 c) (c .unopened2 .ensures)
-    ∙ open-spacing lp2 _ _ _ (lent (start-at-returns-2 c) p) (lines-right (c .before .before .before))
-    (sym (c .before .before .spacing-allowed .ensures) ∙ not-true (c .before .before .spacing-allowed .result) (c .before .if2 .taken))
-
-fit-requires : tie.Need-fit-requires
-unfolding lines-allowed lp2
-fit-requires c κs =
-    let n = start-at-fit-requires c .args .lines in
-    leb-true _ _ (and-eq-true-iff (leb 1 n) (leb n 99) .0 (lines-right (else1-at-fit-requires c)) .1)
+    let s = start-at-returns c in
+    shut-with s (c .unopened .ensures)
+    ∙ open-refused lp2 (s .args .lines) (s .args .spacing) (s .args .font .now) (lent s p)
+    (admit-at-returns c .admit .ensures p) (sym (c .before .before .refusal .ensures) ∙ c .before .if1 .taken)
 
 start-requires : tie.Need-start-requires
-start-requires c κs =
-    right-fitting lp2 _ _ (lent (start-at-start-requires c) shut)
-    (fit-at-start-requires c .fit .ensures shut) (enum-told-at-start-requires c .enum-told .given .1) .memory
+start-requires c κs = fits (else1-at-start-requires c) shut .memory
 
-returns-3 : tie.Need-returns-3
-returns-3 c p =
-    shut-with (start-at-returns-3 c) (c .unopened3 .ensures)
-    ∙ open-misfit lp2 _ _ _ (lent (start-at-returns-3 c) p) (lines-right (else1-at-returns-3 c)) (spacing-right (else2-at-returns-3 c))
-    (fit-at-returns-3 c .fit .ensures p) (c .before .before .fitting .given .1)
-
-returns-4 : tie.Need-returns-4
-returns-4 c p =
-    after-start-at-returns-4 c .start .ensures
-    ∙ open-done lp2 _ _ _ (lent (start-at-returns-4 c) p) (lines-right (else1-at-returns-4 c)) (spacing-right (else2-at-returns-4 c))
-    (fit-at-returns-4 c .fit .ensures p) (enum-told-at-returns-4 c .enum-told .given .1)
+returns-2 : tie.Need-returns-2
+returns-2 c p = after-start-at-returns-2 c .start .ensures ∙ fits (else1-at-returns-2 c) p .opens
 
 pub open-spec : {M : Type 1} → statement M
 open-spec =
     tie.close
-    (tie.spec (λ c κs. search needs) (λ c κs. search needs) returns (λ c κs. search needs) (λ c κs. search needs) returns-2 fit-requires
-    (λ c. search needs) (λ c κs. search needs) (λ c. search needs) start-requires (λ c. search needs) (λ c. search needs) (λ c. search needs)
-    (λ c. search needs) returns-3 (λ c. search needs) (λ c. search needs) (λ c. search needs) (λ c. search needs) returns-4)
+    (tie.spec (λ c κs. search needs) (λ c κs. search needs) (λ c κs. search needs) (λ c. search needs) (λ c. search needs) (λ c. search needs)
+    (λ c. search needs) returns start-requires (λ c. search needs) (λ c. search needs)
+    (λ c. search needs) (λ c. search needs) returns-2)

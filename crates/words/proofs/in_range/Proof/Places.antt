@@ -1,5 +1,5 @@
--- The places that the proof of `is_state` names. Made by tools/places; nobody has to read it.
-use Rattle.words.proofs.is_state.Tie as tie
+-- The places that the proof of `in_range` names. Made by tools/places; nobody has to read it.
+use Rattle.words.proofs.in_range.Tie as tie
 
 abbrev pub else1-at-returns-3 : tie.Then3 → tie.Else1
 else1-at-returns-3 c = c .before .before .before .before
