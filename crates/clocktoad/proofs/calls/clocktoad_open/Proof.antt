@@ -2,6 +2,7 @@
 -- written, and what opening refuses besides is answered first.
 mod Places
 use borrow.Author.Needs.{needs}
+use native.Mathlib.Omega.{arith}
 use Rattle.printer.specs.Machine.{shut}
 use Rattle.protocol.specs.Calls.{Opening}
 use Rattle.protocol.specs.Given.{given-opening}
@@ -22,13 +23,13 @@ opened c = let m = c .«open» .last .1 .1 in given-opening (c .«open» .result
 returns : tie.Need-returns
 returns c =
     let s = start-at-returns c in
-    open-unkept (s .args .lines) (s .args .spacing) (lent s) (then1-at-returns c .if1 .taken) (c .refused-or .ensures) (c .before .admit .ensures shut)
+    open-unkept (s .args .lines) (s .args .spacing) (lent s) (λ q. omega (arith, then1-at-returns c .if1 .taken)) (c .refused-or .ensures) (c .before .admit .ensures shut)
 
 returns-2 : tie.Need-returns-2
 returns-2 c =
     let s = start-at-returns-2 c in
     let o = open-at-returns-2 c in
-    opens (s .args .lines) (s .args .spacing) (lent s) (opened o) (else1-at-returns-2 c .if1 .left) (o .«open» .ensures shut)
+    opens (s .args .lines) (s .args .spacing) (lent s) (opened o) (omega (arith, else1-at-returns-2 c .if1 .left)) (o .«open» .ensures shut)
     (c .before .before .before .put .ensures) (c .answer-number .ensures)
 
 pub clocktoad-open-spec : {M : Type 1} → statement M
