@@ -1,11 +1,12 @@
 -- `memory::held` is safe and ends: words are read as a state only where they are one.
 use borrow.Author.Needs.{needs}
 use mathlib.Core.Path.{sym, _∙_}
+use Rattle.words.proofs.Ranges.{state-halves}
 use Rattle.edges.proofs.memory.held.Statement.{statement}
 use Rattle.edges.proofs.memory.held.Tie as tie
 
 state-of-requires : tie.Need-state-of-requires
-state-of-requires c κs = (search needs, sym (c .before .before .is-state .ensures) ∙ c .before .if1 .taken)
+state-of-requires c κs = state-halves _ (sym (c .before .before .is-state .ensures) ∙ c .before .if1 .taken)
 
 pub held-spec : {M : Type 1} → statement M
 held-spec = tie.close (tie.spec (λ c κs. search needs) state-of-requires (λ c. search needs) (λ c κs. search needs) (λ c. search needs))
