@@ -1,0 +1,186 @@
+-- Document 01's five wrong programs, each shut out where the document says that it falls. A program is any way of feeding: for each piece and machine an
+-- answer, a count and a machine. "Evidence asked".
+use Prim.Native.Nat.{ℕ, zero, suc, _<_}
+use mathlib.Core.Bool.{Bool, true, false, cond}
+use mathlib.Core.List.{List, [], _∷_, map, append-nil}
+use mathlib.Core.Path.{_≡_, refl, sym, ap, _∙_}
+use native.Mathlib.Omega.{arith}
+use lib.ListN.{drop, getD, length, replicate}
+use Rattle.sheet.specs.Edition.{lp2}
+use Rattle.printer.specs.Machine.{Machine, empty-store}
+use Rattle.printer.specs.Numbers.{Report, plain, told-report}
+use Rattle.printer.specs.Steps.{Outcome}
+use Rattle.printer.specs.Table.{Case, Findings, Meets, Seen, answer, bytes, found, from-top, look-at, note-at, number, start, stated, table}
+use Rattle.protocol.specs.declared.Answer.{Answer}
+use Rattle.protocol.specs.declared.Answer.the-variants.{Done, Finished, Noted, JobFull, Unsound, Misfit, WrongLines, WrongSpacing}
+use Rattle.protocol.specs.declared.Lent.the-variants.{Page, LineStore, Staging, DownloadStore, Font}
+use Rattle.protocol.specs.Answers.{lent-number, refusal, report}
+use Rattle.protocol.specs.Calls.{Feeding}
+use Rattle.protocol.specs.Protocol.{Delivery, after, answered, delivery, ends, offer, on, outcome, used-up}
+
+abbrev pub Program : Type 0
+Program = List ℕ → Machine → Feeding
+
+-- a program as a way of reading a job: the job delivered in one piece
+abbrev pub in-one-piece : Program → List ℕ → Machine → Outcome
+in-one-piece feed job m = outcome (delivery lp2 feed (job ∷ []) m)
+
+-- demand 2 for a program at a case of the table
+abbrev pub MeetsCase : Program → Case → Type 0
+MeetsCase feed c = found (in-one-piece feed) c ≡ stated c
+
+-- a case by its place in the table
+abbrev case : ℕ → Case
+case i = getD table i (from-top [] [] [])
+
+-- Cases B, C and H, the last with the right checksum.
+abbrev pub case-b : Case
+case-b = case 1
+
+abbrev pub case-c : Case
+case-c = case 2
+
+abbrev pub case-h : Case
+case-h = case 7
+
+abbrev findings : ℕ → List Findings → Findings
+findings i fs = getD fs i (record { told = []; seen = [] })
+
+-- a program that meets the table meets them
+pub table-has : (feed : Program) → Meets (in-one-piece feed) → MeetsCase feed case-b × MeetsCase feed case-c × MeetsCase feed case-h
+unfolding table
+table-has feed h = (ap (findings 1) h, ap (findings 2) h, ap (findings 7) h)
+
+-- a refusal tells nothing
+refused-silent : (a : Answer) (m : Machine) (go : Machine → Delivery) → refusal a ≡ true → answered lp2 a m go .told ≡ []
+unfolding refusal answered
+refused-silent Done m go q = refl
+refused-silent Finished m go q = let z : _≡_ {A = ℕ} 0 1 = cc in absurd (omega arith)
+refused-silent (Noted f place) m go q = let z : _≡_ {A = ℕ} 0 1 = cc in absurd (omega arith)
+refused-silent JobFull m go q = refl
+refused-silent Unsound m go q = refl
+refused-silent (Misfit lent) m go q = refl
+refused-silent WrongLines m go q = refl
+refused-silent WrongSpacing m go q = refl
+
+-- what is told after an answer, by its numbers
+abbrev told-after : Answer → Machine → (Machine → Delivery) → List Report
+told-after a m go = map told-report (answered lp2 a m go .told)
+
+-- after an answer 2 something is told
+note-told : (a : Answer) (m : Machine) (go : Machine → Delivery) → report a .number ≡ 2 → 0 < length (told-after a m go)
+unfolding report lent-number answered
+note-told Done m go q = absurd (omega arith)
+note-told Finished m go q = absurd (omega arith)
+note-told (Noted f place) m go q = omega arith
+note-told JobFull m go q = absurd (omega arith)
+note-told Unsound m go q = absurd (omega arith)
+note-told (Misfit Page) m go q = absurd (omega arith)
+note-told (Misfit LineStore) m go q = absurd (omega arith)
+note-told (Misfit Staging) m go q = absurd (omega arith)
+note-told (Misfit DownloadStore) m go q = absurd (omega arith)
+note-told (Misfit Font) m go q = absurd (omega arith)
+note-told WrongLines m go q = absurd (omega arith)
+note-told WrongSpacing m go q = absurd (omega arith)
+
+abbrev first-number : List Report → ℕ
+first-number rs = getD rs 0 (plain 0) .number
+
+-- one note and no more is not told where an answer 2 has another behind it
+not-one-note : (a : Answer) (m : Machine) (go : Machine → Delivery) (n place : ℕ)
+    → (report a .number ≡ 2 → 0 < length (map told-report (go m .told))) → told-after a m go ≡ note-at n place ∷ [] → ⊥
+unfolding report told-report answered
+not-one-note Done m go n place h q = let k = ap length q in omega arith
+not-one-note Finished m go n place h q = let k = ap first-number q in omega arith
+not-one-note (Noted f at) m go n place h q = let k = ap length q in omega (arith, h refl)
+not-one-note JobFull m go n place h q = let k = ap length q in omega arith
+not-one-note Unsound m go n place h q = let k = ap length q in omega arith
+not-one-note (Misfit lent) m go n place h q = let k = ap length q in omega arith
+not-one-note WrongLines m go n place h q = let k = ap length q in omega arith
+not-one-note WrongSpacing m go n place h q = let k = ap length q in omega arith
+
+-- an answer leaves the download store as it is if what goes on does
+answered-keeps : (a : Answer) (m : Machine) (go : Machine → Delivery) → ((n : Machine) → go n .machine .store ≡ n .store)
+    → answered lp2 a m go .machine .store ≡ m .store
+unfolding answered
+answered-keeps Done m go k = refl
+answered-keeps Finished m go k = k _
+answered-keeps (Noted f place) m go k = k m
+answered-keeps JobFull m go k = refl
+answered-keeps Unsound m go k = refl
+answered-keeps (Misfit lent) m go k = refl
+answered-keeps WrongLines m go k = refl
+answered-keeps WrongSpacing m go k = refl
+
+-- the third of the bytes that are seen first
+abbrev third-byte : List Seen → ℕ
+third-byte [] = 0
+third-byte (number n ∷ ss) = 0
+third-byte (bytes bs ∷ ss) = getD bs 2 0
+third-byte (answer r ∷ ss) = 0
+
+module _ (feed : Program) where
+  -- a job in one piece is what the offers of it come to
+  offers : (job : List ℕ) (m : Machine) → in-one-piece feed job m ≡ outcome (offer lp2 feed (suc (length job)) job m)
+  unfolding delivery
+  offers job m = let d : Delivery = offer lp2 feed (suc (length job)) job m in either d (used-up (d .answer))
+    where
+      either : (d : Delivery) (b : Bool) → outcome (cond b (after (d .told) (ends Done (d .machine))) d) ≡ outcome d
+      either d true = rw (append-nil (d .told))
+      either d false = refl
+
+  -- what is told of a job in one piece
+  abbrev tells : List ℕ → List Report
+  tells job = map told-report (offer lp2 feed (suc (length job)) job (start 0 false) .told)
+
+  case-tells : (job : List ℕ) (told : List Report) → MeetsCase feed (from-top job told []) → tells job ≡ told
+  unfolding found stated
+  case-tells job told h = ap (λ (o : Outcome). map told-report (o .told)) (sym (offers job (start 0 false))) ∙ ap (λ (f : Findings). f .told) h
+
+  refusing-tells : ((piece : List ℕ) (m : Machine) → refusal (feed piece m .answer) ≡ true) → (job : List ℕ) → tells job ≡ []
+  unfolding offer
+  refusing-tells h job = rw (refused-silent (feed job (start 0 false) .answer) _ _ (h job (start 0 false)))
+
+  one-number-tells : (n : ℕ) → ((piece : List ℕ) (m : Machine) → report (feed piece m .answer) .number ≡ n) → (b : ℕ) (bs : List ℕ) (note place : ℕ)
+      → tells (b ∷ bs) ≡ note-at note place ∷ [] → ⊥
+  unfolding offer
+  one-number-tells n h b bs note place q =
+      let f : Feeding = feed (b ∷ bs) (start 0 false) in
+      let rest : List ℕ = drop (f .taken) (b ∷ bs) in
+      not-one-note (f .answer) (f .machine) _ note place
+      (λ two. note-told (feed rest (f .machine) .answer) _ _ (h rest (f .machine) ∙ sym (h (b ∷ bs) (start 0 false)) ∙ two)) q
+
+  -- A PROGRAM THAT REFUSES ALL falls to demand 2 at case B, and at case C.
+  pub refuses-all : ((piece : List ℕ) (m : Machine) → refusal (feed piece m .answer) ≡ true) → (MeetsCase feed case-b → ⊥) × (MeetsCase feed case-c → ⊥)
+  unfolding table
+  refuses-all h = (
+    λ b. let k = ap length (sym (refusing-tells h (case-b .job)) ∙ case-tells (case-b .job) (case-b .told) b) in omega arith,
+    λ c. let k = ap length (sym (refusing-tells h (case-c .job)) ∙ case-tells (case-c .job) (case-c .told) c) in omega arith,
+  )
+
+  -- ONE WITH A SINGLE ANSWER falls there too: even one whose answers all have the same number, whatever their values.
+  pub single-answer : (n : ℕ) → ((piece : List ℕ) (m : Machine) → report (feed piece m .answer) .number ≡ n)
+      → (MeetsCase feed case-b → ⊥) × (MeetsCase feed case-c → ⊥)
+  unfolding table
+  single-answer n h = (
+    λ b. one-number-tells n h 0x41 (replicate 132 0x41) 44 132 (case-tells (case-b .job) (case-b .told) b),
+    λ c. one-number-tells n h 0x1b (0x3c ∷ replicate 67 0x41) 44 68 (case-tells (case-c .job) (case-c .told) c),
+  )
+
+  module _ (keeps : (piece : List ℕ) (m : Machine) → feed piece m .machine .store ≡ m .store) where
+    offer-keeps : (calls : ℕ) (piece : List ℕ) (m : Machine) → offer lp2 feed calls piece m .machine .store ≡ m .store
+    unfolding offer
+    offer-keeps zero piece m = refl
+    offer-keeps (suc calls) piece m =
+        let f : Feeding = feed piece m in
+        answered-keeps (f .answer) (f .machine) _ (offer-keeps calls (drop (f .taken) piece)) ∙ keeps piece m
+
+    -- ONE THAT LEAVES MEMORY ALONE, be it only the download store, falls at case H.
+    pub leaves-memory-alone : MeetsCase feed case-h → ⊥
+    unfolding table found stated look-at empty-store
+    leaves-memory-alone h =
+        let job : List ℕ = case-h .job in
+        let s : in-one-piece feed job (start 0 false) .machine .store ≡ empty-store =
+        ap (λ (o : Outcome). o .machine .store) (offers job (start 0 false)) ∙ offer-keeps (suc (length job)) job (start 0 false) in
+        let k : _≡_ {A = ℕ} 0 1 = rw s at (ap (λ (f : Findings). third-byte (f .seen)) h) in
+        omega arith
