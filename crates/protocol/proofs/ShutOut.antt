@@ -7,16 +7,25 @@ use mathlib.Core.Path.{_≡_, refl, sym, ap, _∙_}
 use native.Mathlib.Omega.{arith}
 use lib.ListN.{drop, getD, length, replicate}
 use Rattle.sheet.specs.Edition.{lp2}
+use Rattle.sheet.specs.Form.{lines-allowed, spacing-allowed}
+use Rattle.printer.specs.Alone.{alone, prints, text-byte}
+use Rattle.printer.specs.Bytes.{act, first-byte, run, second-byte, step, text-escape}
+use Rattle.printer.specs.Commands.{reading}
+use Rattle.printer.specs.Escapes.{escape}
 use Rattle.printer.specs.Machine.{Machine, empty-store}
 use Rattle.printer.specs.Numbers.{Report, plain, told-report}
-use Rattle.printer.specs.Steps.{Outcome}
+use Rattle.printer.specs.Room.{Ready}
+use Rattle.printer.specs.Steps.{Outcome, tell, tell-step}
 use Rattle.printer.specs.Table.{Case, Findings, Meets, Seen, answer, bytes, found, from-top, look-at, note-at, number, start, stated, table}
+use Rattle.printer.proofs.Readings.{run-reading}
+use Rattle.printer.proofs.StaysSound.{opened-ready}
 use Rattle.protocol.specs.declared.Answer.{Answer}
 use Rattle.protocol.specs.declared.Answer.the-variants.{Done, Finished, Noted, JobFull, Unsound, Misfit, WrongLines, WrongSpacing}
 use Rattle.protocol.specs.declared.Lent.the-variants.{Page, LineStore, Staging, DownloadStore, Font}
 use Rattle.protocol.specs.Answers.{lent-number, refusal, report}
-use Rattle.protocol.specs.Calls.{Feeding}
-use Rattle.protocol.specs.Protocol.{Delivery, after, answered, delivery, ends, offer, on, outcome, used-up}
+use Rattle.protocol.specs.Calls.{Feeding, feeding, heard, take-bytes}
+use Rattle.protocol.specs.Protocol.{Delivery, after, answered, delivered, delivery, ends, joined, offer, outcome, used-up}
+use Rattle.protocol.proofs.Accepted.{feeding-takes}
 
 abbrev pub Program : Type 0
 Program = List ℕ → Machine → Feeding
@@ -28,6 +37,10 @@ in-one-piece feed job m = outcome (delivery lp2 feed (job ∷ []) m)
 -- demand 2 for a program at a case of the table
 abbrev pub MeetsCase : Program → Case → Type 0
 MeetsCase feed c = found (in-one-piece feed) c ≡ stated c
+
+-- demand 3 for a program at a cutting: a job on 66 lines at 6 an inch is delivered as it is read
+abbrev pub MeetsCutting : List ℕ → Program → List (List ℕ) → Type 0
+MeetsCutting font feed pieces = delivery lp2 feed pieces (start 0 false) ≡ delivered (reading lp2 font (joined pieces) (start 0 false))
 
 -- a case by its place in the table
 abbrev case : ℕ → Case
@@ -119,6 +132,25 @@ third-byte (number n ∷ ss) = 0
 third-byte (bytes bs ∷ ss) = getD bs 2 0
 third-byte (answer r ∷ ss) = 0
 
+abbrev top : Machine
+top = start 0 false
+
+top-ready : Ready lp2 top
+unfolding lp2 lines-allowed spacing-allowed
+top-ready = opened-ready lp2 (record { lines = 66; spacing = 6 }) refl refl
+
+-- 1B 3C, which sets elongated characters, is used up and tells nothing; 80 behind it gives a note
+abbrev obeyed : List ℕ
+obeyed = 0x1b ∷ 0x3c ∷ []
+
+obeyed-taken : (font : List ℕ) → (take-bytes lp2 font obeyed top .answer ≡ Done) × (take-bytes lp2 font obeyed top .machine .printer .job ≡ 2)
+unfolding take-bytes heard step act first-byte second-byte text-escape escape
+obeyed-taken font = (refl, refl)
+
+obeyed-read : (font : List ℕ) → length (reading lp2 font (0x1b ∷ 0x3c ∷ 0x80 ∷ []) top .told) ≡ 1
+unfolding run tell-step tell step act first-byte second-byte text-escape escape alone text-byte prints
+obeyed-read font = rw (sym (run-reading lp2 font (0x1b ∷ 0x3c ∷ 0x80 ∷ []) top refl)) refl
+
 module _ (feed : Program) where
   -- a job in one piece is what the offers of it come to
   offers : (job : List ℕ) (m : Machine) → in-one-piece feed job m ≡ outcome (offer lp2 feed (suc (length job)) job m)
@@ -175,12 +207,33 @@ module _ (feed : Program) where
         let f : Feeding = feed piece m in
         answered-keeps (f .answer) (f .machine) _ (offer-keeps calls (drop (f .taken) piece)) ∙ keeps piece m
 
-    -- ONE THAT LEAVES MEMORY ALONE, be it only the download store, falls at case H.
+    job-keeps : (job : List ℕ) (m : Machine) → in-one-piece feed job m .machine .store ≡ m .store
+    job-keeps job m = ap (λ (o : Outcome). o .machine .store) (offers job m) ∙ offer-keeps (suc (length job)) job m
+
+    -- ONE THAT LEAVES MEMORY ALONE, be it only the download store, falls to demand 2 at case H.
     pub leaves-memory-alone : MeetsCase feed case-h → ⊥
     unfolding table found stated look-at empty-store
     leaves-memory-alone h =
-        let job : List ℕ = case-h .job in
-        let s : in-one-piece feed job (start 0 false) .machine .store ≡ empty-store =
-        ap (λ (o : Outcome). o .machine .store) (offers job (start 0 false)) ∙ offer-keeps (suc (length job)) job (start 0 false) in
-        let k : _≡_ {A = ℕ} 0 1 = rw s at (ap (λ (f : Findings). third-byte (f .seen)) h) in
+        let k : _≡_ {A = ℕ} 0 1 = rw (job-keeps (case-h .job) (start 0 false)) at (ap (λ (f : Findings). third-byte (f .seen)) h) in
         omega arith
+
+  -- a piece that is used up at its first call
+  done-at-once : (piece : List ℕ) (pieces : List (List ℕ)) (m : Machine) → feed piece m .answer ≡ Done
+      → delivery lp2 feed (piece ∷ pieces) m ≡ delivery lp2 feed pieces (feed piece m .machine)
+  unfolding delivery offer answered
+  done-at-once piece pieces m q = rw q
+
+  module _ (font : List ℕ) (sized : length font ≡ 2048) where
+    -- ONE THAT OBEYS THE FIRST PIECE AND FEIGNS THE REST, answering 0 to it whatever it takes and leaves, falls to demand 3: here with 80 in the
+    -- second piece.
+    pub feigns-the-rest : ((piece : List ℕ) (m : Machine) → m .printer .job ≡ 0 → feed piece m ≡ feeding lp2 font piece m)
+        → ((piece : List ℕ) (m : Machine) → 0 < m .printer .job → feed piece m .answer ≡ Done)
+        → MeetsCutting font feed ((0x1b ∷ 0x3c ∷ []) ∷ (0x80 ∷ []) ∷ []) → ⊥
+    unfolding joined delivery
+    feigns-the-rest obeys feigns h =
+        let f : feed obeyed top ≡ take-bytes lp2 font obeyed top = obeys obeyed top refl ∙ feeding-takes top-ready font sized obeyed in
+        let d = done-at-once obeyed ((0x80 ∷ []) ∷ []) top (ap (λ (g : Feeding). g .answer) f ∙ obeyed-taken font .0) in
+        let j : feed obeyed top .machine .printer .job ≡ 2 = ap (λ (g : Feeding). g .machine .printer .job) f ∙ obeyed-taken font .1 in
+        let r = done-at-once (0x80 ∷ []) [] (feed obeyed top .machine) (feigns (0x80 ∷ []) (feed obeyed top .machine) (omega (arith, j))) in
+        let k = ap (λ (x : Delivery). length (x .told)) (sym (d ∙ r) ∙ h) in
+        omega (arith, k, obeyed-read font)
