@@ -1,5 +1,5 @@
 -- What the sound test says, as facts.
-use Prim.Native.Nat.{ℕ, zero, suc, _+_, _-_, _≤_, _<_}
+use Prim.Native.Nat.{ℕ, zero, suc, _+_, _-_, _<_}
 use mathlib.Core.Bool.{Bool, true, false, not, _||_, and-eq-true-iff, true≢false}
 use mathlib.Core.List.{List, [], _∷_}
 use mathlib.Core.Path.{_≡_, refl, sym, ap, subst, _∙_}
@@ -10,7 +10,7 @@ use lib.ListN.{drop, getD}
 use lib.Seq.{getD-drop}
 use Rattle.sheet.specs.declared.Form.{Form}
 use Rattle.sheet.specs.Edition.{Edition}
-use Rattle.sheet.specs.Form.{fits, form-rows, lines-allowed, spacing-allowed}
+use Rattle.sheet.specs.Form.{fits, lines-allowed}
 use Rattle.printer.specs.declared.Begun.{Begun}
 use Rattle.printer.specs.declared.Begun.the-variants.{Nowhere, At}
 use Rattle.printer.specs.declared.Head.{Head}
@@ -18,8 +18,8 @@ use Rattle.printer.specs.declared.Pending.{Pending}
 use Rattle.printer.specs.declared.Pending.the-variants.{Nothing, Escape, Tabs, Reset, Select, SelectLow, CountHigh, CountLow, AddressHigh}
 use Rattle.printer.specs.declared.Pending.the-variants.{AddressLow, Payload}
 use Rattle.printer.specs.declared.Printer.{Printer}
-use Rattle.printer.specs.Facts.{Sound, SoundForm, SoundHead, SoundLoad, SoundPlace, SoundPlot, SoundTabs}
-use Rattle.printer.specs.Sound.{begun, form-sound, fresh-sound, load-sound, at-most-escape, place-sound, plot-sound, sound, tabs-sound, untabbed}
+use Rattle.printer.specs.Facts.{Sound, SoundForm, SoundLoad, SoundPlace, SoundPlot, SoundTabs}
+use Rattle.printer.specs.Sound.{begun, form-sound, fresh-sound, load-sound, place-sound, plot-sound, sound, tabs-sound, untabbed}
 use Rattle.printer.specs.Tabs.{line-tabs}
 
 -- Each test says its fact.

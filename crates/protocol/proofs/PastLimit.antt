@@ -1,7 +1,7 @@
 -- However a job of any length is cut into pieces, the calls give what the whole-job reading gives of its first 4,294,967,295 bytes, and the last
 -- answer is 3 exactly where there are more.
 use Prim.Native.Nat.{ℕ, zero, suc, zero-le, _+_, _-_, _≤_, _<_}
-use mathlib.Core.Bool.{Bool, true, false, cond, true≢false}
+use mathlib.Core.Bool.{Bool, true, false, cond}
 use mathlib.Core.List.{List, [], _∷_, _++_}
 use mathlib.Core.Logic.{_↔_}
 use mathlib.Core.Path.{_≡_, refl, sym, ap, subst, _∙_}
@@ -29,7 +29,7 @@ use Rattle.printer.proofs.StaysSound.{opened-ready, run-ready, step-ready, tell
 use Rattle.protocol.specs.declared.Answer.the-variants.{Done, JobFull}
 use Rattle.protocol.specs.Answers.{report}
 use Rattle.protocol.specs.Calls.{Feeding, feeding, heard, limit, opening, take-bytes}
-use Rattle.protocol.specs.Protocol.{Delivery, after, answered, delivered, delivered-up-to, delivery, ends, joined, offer, on, room, used-up}
+use Rattle.protocol.specs.Protocol.{Delivery, after, answered, delivered, delivered-up-to, delivery, ends, joined, offer, on, room}
 use Rattle.protocol.proofs.Accepted.{Accepted, feeding-takes, opening-accepted}
 
 -- where all bytes fit, it is the delivery of the whole job

@@ -18,7 +18,8 @@ same-length c = c .before .before .put-pending .kept .0 ∙ simp length-set
 returns : tie.Need-returns
 returns c =
     let s = start-at-returns c in
-    wrote-state (s .args .p) (s .args .state .now) (s .pre) (omega (arith, s)) (rows-above-at-returns c .rows-above .ensures) (truth-at-returns c .truth .ensures) (truth2-at-returns c .truth2 .ensures)
+    wrote-state (s .args .p) (s .args .state .now) (s .pre) (omega (arith, s))
+    (rows-above-at-returns c .rows-above .ensures) (truth-at-returns c .truth .ensures) (truth2-at-returns c .truth2 .ensures)
     (truth3-at-returns c .truth3 .ensures) (pitch-word-at-returns c .pitch-word .ensures) (truth4-at-returns c .truth4 .ensures)
     (truth5-at-returns c .truth5 .ensures) (truth6-at-returns c .truth6 .ensures) (c .before .before .put-pending .ensures)
 

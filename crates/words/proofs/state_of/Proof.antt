@@ -32,8 +32,10 @@ place-requires-2 c κs = held (start-at-place-requires-2 c) .job
 
 returns : tie.Need-returns
 returns c =
-    read-state (start-at-returns c .args .state .now) (size-at-returns c .size .ensures) (size2-at-returns c .size2 .ensures) (c .place2 .ensures)
-    (row-at-returns c .row .ensures ∙ ap row (size3-at-returns c .size3 .ensures)) (size4-at-returns c .size4 .ensures) (pitch-of-at-returns c .pitch-of .ensures)
+    read-state (start-at-returns c .args .state .now) (size-at-returns c .size .ensures) (size2-at-returns c .size2 .ensures)
+    (c .place2 .ensures)
+    (row-at-returns c .row .ensures ∙ ap row (size3-at-returns c .size3 .ensures)) (size4-at-returns c .size4 .ensures)
+    (pitch-of-at-returns c .pitch-of .ensures)
     (place-at-returns c .place .ensures) (byte-at-returns c .byte .ensures) (half-at-returns c .half .ensures) (half2-at-returns c .half2 .ensures)
     (c .before .before .before .half3 .ensures) (c .before .before .pending-of .ensures)
 
@@ -41,7 +43,8 @@ pub state-of-spec : {M : Type 1} → statement M
 state-of-spec =
     tie.close
     (tie.spec (λ c. search needs) (λ c κs. search needs) (λ c. search needs) (λ c κs. search needs) (λ c. search needs) (λ c κs. search needs)
-    (λ c κs. search needs) (λ c. search needs) (λ c κs. search needs) (λ c. search needs) (λ c. search needs) (λ c. search needs) (λ c. search needs) (λ c κs. search needs)
+    (λ c κs. search needs) (λ c. search needs) (λ c κs. search needs) (λ c. search needs) (λ c. search needs) (λ c. search needs)
+    (λ c. search needs) (λ c κs. search needs)
     (λ c. search needs) (λ c. search needs) (λ c. search needs) (λ c. search needs) (λ c. search needs) (λ c. search needs) (λ c. search needs)
     place-requires (λ c. search needs) byte-requires (λ c. search needs) half-requires (λ c. search needs) half-requires-2 (λ c. search needs)
     half-requires-3 (λ c κs. search needs) (λ c. search needs) place-requires-2 returns)

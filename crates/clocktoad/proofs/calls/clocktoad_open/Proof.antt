@@ -23,7 +23,8 @@ opened c = let m = c .«open» .last .1 .1 in given-opening (c .«open» .result
 returns : tie.Need-returns
 returns c =
     let s = start-at-returns c in
-    open-unkept (s .args .lines) (s .args .spacing) (lent s) (λ q. omega (arith, then1-at-returns c .if1 .taken)) (c .refused-or .ensures) (c .before .admit .ensures shut)
+    open-unkept (s .args .lines) (s .args .spacing) (lent s) (λ q. omega (arith, then1-at-returns c .if1 .taken))
+    (c .refused-or .ensures) (c .before .admit .ensures shut)
 
 returns-2 : tie.Need-returns-2
 returns-2 c =

@@ -1,6 +1,5 @@
 -- `calls::refused_or`: a refusal has its own number; what is none leaves the number that was given.
 use borrow.Author.Needs.{needs}
-use mathlib.Core.Path.{sym, _∙_}
 use Rattle.clocktoad.specs.Calls.{refused-or}
 use Rattle.clocktoad.proofs.calls.refused_or.Statement.{statement}
 use Rattle.clocktoad.proofs.calls.refused_or.Tie as tie

@@ -1,6 +1,5 @@
 -- `runs::fitting`: all of the piece where it is shorter than the job's room, and else as many bytes as there is room for.
 use borrow.Author.Needs.{needs}
-use mathlib.Core.Path.{ap, sym, _∙_}
 use borrow.Author.Tests.{le-ltb, lt-ltb}
 use Rattle.runs.proofs.runs.fitting.Statement.{statement}
 use Rattle.runs.proofs.runs.fitting.Tie as tie

@@ -1,7 +1,7 @@
 -- `groups::eight`: columns with no wire set leave the page as it is; others begin at the top of a byte, and what strikes them in their pitch is told
 -- that byte.
 mod Places
-use Prim.Native.Nat.{ℕ, _+_, _*_, _/_, _≤_}
+use Prim.Native.Nat.{ℕ, _+_, _≤_}
 use mathlib.Core.Path.{_≡_, sym, ap, _∙_}
 use mathlib.Core.List.{List}
 use native.Mathlib.Omega.{arith}
