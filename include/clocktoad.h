@@ -92,9 +92,9 @@ enum clocktoad_report {
  * Opens a job on a form of `lines` lines (1 to 99) at `spacing` lines an inch (6 or 8).
  * Tested in this order: 18, 19, 11 to 15, 21; else 0.
  * On 0 the page, line store, staging and download store are zeroed and the state is that of a
- * job of no bytes. On 18, 19 and 11 to 15 the state becomes the shut state, which feeding and
- * closing answer with 10, and nothing else is written. On 21 nothing is written, and a state of
- * the wrong length is not written on any answer.
+ * job of no bytes. On 18, 19 and 11 to 15 a state of the right length becomes the shut state,
+ * which feeding and closing answer with 10, and nothing else is written. On 21 nothing is written.
+ * A state of the wrong length is not written on any answer.
  * The font is never written; it may change between calls.
  */
 uint64_t clocktoad_open(uint64_t lines, uint64_t spacing,
@@ -111,7 +111,8 @@ uint64_t clocktoad_open(uint64_t lines, uint64_t spacing,
  * Tested in this order: 10, also for a state of the wrong length, 11 to 15, 22; none of these
  * writes anything.
  * Else 0, 1, 2 or 3, and the report is written. A finished page is not cleared.
- * The slices must hold what the call before left in them, but for the page after answer 1.
+ * State, page, line store, staging and download store must hold what the call before left in them,
+ * but for the page after answer 1.
  */
 uint64_t clocktoad_feed(uint64_t *state, size_t state_len,
                         uint8_t *page, size_t page_len,
