@@ -410,21 +410,25 @@ static void measure(const struct job *j, size_t piece, int runs)
 /* One job of `length` bytes of dense text, the buffer's whole lines repeated as often as needed. */
 static void growth(const struct job *j, uint64_t length, int runs)
 {
-    double times[RUNS_MAX];
+    double ours[RUNS_MAX], theirs[RUNS_MAX];
     size_t unit = j->length - j->length % (DENSE + 1);
     for (int k = 0; k < runs; k++) {
-        uint64_t left = length;
-        must(open_library(&library) == 0);
+        must(open_library(&library) == 0 && open_twin(&twin) == 0);
         double start = now();
-        while (left > 0) {
-            size_t n = left < unit ? (size_t)left : unit;
-            must(pass_library(&library, j->bytes, n, 4096) == n);
-            left -= n;
+        for (uint64_t left = length, n; left > 0; left -= n) {
+            n = left < unit ? left : unit;
+            must(pass_library(&library, j->bytes, (size_t)n, 4096) == n);
         }
-        times[k] = now() - start;
+        double middle = now();
+        for (uint64_t left = length, n; left > 0; left -= n) {
+            n = left < unit ? left : unit;
+            must(pass_twin(&twin, j->bytes, (size_t)n, 4096) == n);
+        }
+        ours[k] = middle - start;
+        theirs[k] = now() - middle;
     }
-    double t = median(times, runs);
-    printf("| %11" PRIu64 " | %10.3f | %8.2f |\n", length, t * 1e3, t * 1e9 / (double)length);
+    double a = median(ours, runs), b = median(theirs, runs);
+    printf("| %11" PRIu64 " | %8.2f | %8.2f | %6.2f |\n", length, a * 1e9 / (double)length, b * 1e9 / (double)length, a / b);
 }
 
 static void empty_pieces(long calls, int runs)
@@ -484,7 +488,7 @@ int main(int argc, char **argv)
     for (int k = 0; k < JOBS; k++)
         for (int p = 0; p < 4; p++)
             measure(&jobs[k], pieces[p], runs);
-    printf("\nGrowth, dense text in pieces of 4096, ours:\n\n| bytes | ms | ns a byte |\n|---|---|---|\n");
+    printf("\nGrowth, dense text in pieces of 4096:\n\n| bytes | ours ns a byte | twin ns a byte | ours/twin time |\n|---|---|---|---|\n");
     for (uint64_t length = 10000; length <= (quick ? 1000000u : 100000000u); length *= 10)
         growth(&jobs[0], length, length > 10000000 ? 3 : runs);
     empty_pieces(quick ? 100000 : 2000000, runs);

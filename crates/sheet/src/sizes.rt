@@ -31,7 +31,7 @@ pub fn rows_per_line(spacing: usize) -> usize
 }
 
 // L × R, the rows of a form.
-pub fn form_rows(form: Form) -> usize
+fn form_rows(form: Form) -> usize
     requires { ⌜ form .lines ≤ 99 ⌝ }
     ensures { λ r. ⌜ r ≡ form-rows form ⌝ }
     ensures { λ r. ⌜ r ≤ 1188 ⌝ }

@@ -141,7 +141,7 @@ fn eight_compressed(page: &mut [u8], line: &[u16], at: usize, c: usize)
 
 // Strikes the eight columns from c on, with wire 1 in `row`. As c is a multiple of eight, their dots begin at the top of a byte. Eight
 // empty columns are passed over.
-pub fn eight(page: &mut [u8], line: &[u16], row: Row, pitch: Pitch, c: usize)
+pub(crate) fn eight(page: &mut [u8], line: &[u16], row: Row, pitch: Pitch, c: usize)
     requires { ⌜ Room (now page) (now line) row ⌝ }
     requires { ⌜ (c % 8 ≡ 0) × (c < lp2 .width pitch) ⌝ }
     ensures { λ _. ⌜ now (page .exit) ≡ blacken-all (now (page .entry)) (line-marks lp2 (take 8 (drop c (now (line .entry)))) pitch row c) ⌝ }
