@@ -6,6 +6,7 @@ use crate::table::LIMIT;
 use crate::table::OPEN;
 use crate::table::SOUND;
 use crate::table::UNSOUND;
+use words::STATE_WORDS;
 
 // How much of each part of the memory is lent.
 pub struct Sizes {
@@ -20,8 +21,8 @@ pub struct Sizes {
 // is a piece, and of how many bytes. `view`: the word for what is told of the memory, from `first` to `last`. `known`: whether the line is understood so far.
 pub struct Case {
     pub kind: u64,
-    pub state: [u64; 20],
-    pub other: [u64; 20],
+    pub state: [u64; STATE_WORDS],
+    pub other: [u64; STATE_WORDS],
     pub lent: Sizes,
     pub sends: bool,
     pub count: usize,
@@ -47,7 +48,7 @@ fn is_kind(word: u64) -> bool {
 
 // The case of a kind before its settings: the state of a job just opened, a fresh line of a form of 1 line at 8 an inch, and the exact lengths.
 pub fn new_case(kind: u64) -> Case {
-    let mut state = [0u64; 20];
+    let mut state = [0u64; STATE_WORDS];
     state[0] = 1;
     state[1] = 8;
     state[5] = 1;
@@ -79,16 +80,16 @@ pub fn as_feeding(mut c: Case) -> Case {
 }
 
 // The case that feeds a state that came back, in memory that fits.
-pub fn fed_next(state: [u64; 20]) -> Case {
+pub fn fed_next(state: [u64; STATE_WORDS]) -> Case {
     let mut c = new_case(FEED);
     c.state = state;
     c
 }
 
 // Whether two states are the same in every word.
-pub fn same_state(one: [u64; 20], other: [u64; 20]) -> bool {
+pub fn same_state(one: [u64; STATE_WORDS], other: [u64; STATE_WORDS]) -> bool {
     let mut i = 0;
-    while i < 20 {
+    while i < STATE_WORDS {
         if one[i] != other[i] {
             return false;
         }

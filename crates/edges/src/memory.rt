@@ -15,6 +15,7 @@ use protocol::numbers::answer_number;
 use protocol::numbers::noted_number;
 use protocol::numbers::noted_place;
 use sheet::Form;
+use words::STATE_WORDS;
 use words::is_state;
 use words::put;
 use words::state_of;
@@ -115,7 +116,7 @@ fn tell(answer: Answer, taken: usize) -> Told {
 }
 
 // The state that words hold; of words that are no state, the shut one.
-fn held(state: &[u64; 20]) -> Printer {
+fn held(state: &[u64; STATE_WORDS]) -> Printer {
     if is_state(state) {
         return state_of(state);
     }
@@ -128,7 +129,7 @@ fn held(state: &[u64; 20]) -> Printer {
 // Opens the state's form, or offers the rest of a piece to the state, which is left as the call gives it back; the count is of the rest's bytes alone.
 fn call(
     kind: u64,
-    state: &mut [u64; 20],
+    state: &mut [u64; STATE_WORDS],
     piece: &[u8],
     taken: usize,
     page: &mut [u8],
@@ -156,7 +157,7 @@ fn call(
 // The same in the lengths that the case lends.
 fn call_lent(
     c: Case,
-    state: &mut [u64; 20],
+    state: &mut [u64; STATE_WORDS],
     piece: &[u8],
     taken: usize,
     page: &mut [u8],
@@ -227,9 +228,9 @@ fn look(first: u8, place: usize, page: &[u8], line: &[u16], staging: &[u8], stor
 // What came of a case: what its call gave back, with the state, the offer of the piece's rest after it, and what is then seen of the memory.
 pub struct Tried {
     pub fed: Told,
-    pub state: [u64; 20],
+    pub state: [u64; STATE_WORDS],
     pub rest: Told,
-    pub after: [u64; 20],
+    pub after: [u64; STATE_WORDS],
     pub seen: Seen,
 }
 
@@ -275,6 +276,6 @@ pub fn try_case(c: Case, piece: &[u8], first: u8, place: usize) -> Tried {
 }
 
 // What closing a state answers.
-pub fn close_state(state: [u64; 20]) -> Closing {
+pub fn close_state(state: [u64; STATE_WORDS]) -> Closing {
     close(held(&state))
 }

@@ -19,6 +19,7 @@ use crate::table::STAGED;
 use crate::table::UNSOUND;
 use report::say;
 use report::say_number;
+use words::STATE_WORDS;
 
 // Opens a job in marked memory, and feeds the piece, if there is one, to the state that came back.
 fn open_case(c: Case, piece: &[u8]) -> bool {
@@ -84,7 +85,7 @@ fn close_case(c: Case, piece: &[u8]) -> bool {
 }
 
 // Writes how many bytes the job has, where the head stands and how the job closes.
-fn say_left(state: [u64; 20]) -> bool {
+fn say_left(state: [u64; STATE_WORDS]) -> bool {
     say_number(b", job ", state[2])
         && say_number(b", row ", state[3])
         && say_number(b", column ", state[4])

@@ -23,6 +23,7 @@ use crate::table::STAGING;
 use crate::table::STORE;
 use crate::table::TAB;
 use crate::table::TAKEN;
+use words::STATE_WORDS;
 
 // The largest number that a word can be set to: of a part of the memory its whole length, of what is 0 or 1 the 1.
 fn largest(word: u64) -> usize {
@@ -69,7 +70,7 @@ fn set_memory(mut c: Case, word: u64, number: usize) -> Case {
     c
 }
 
-// The place of a number or a truth among the twenty words of a state; 20 for what has none.
+// The place of a number or a truth among the words of a state; past them all for what has none.
 fn place_of(word: u64) -> usize {
     match word {
         LINES => 0,
@@ -81,12 +82,12 @@ fn place_of(word: u64) -> usize {
         PLOTTED => 6,
         PLOTTING => 7,
         COMPRESS => 8,
-        _ => 20,
+        _ => STATE_WORDS,
     }
 }
 
 // Sets a command that has begun at a place. A payload is one of 16 bytes for the download store's start.
-fn set_command(mut state: [u64; 20], kind: u64, place: u64) -> [u64; 20] {
+fn set_command(mut state: [u64; STATE_WORDS], kind: u64, place: u64) -> [u64; STATE_WORDS] {
     state[14] = kind;
     state[15] = place;
     if kind == 10 {
@@ -97,16 +98,16 @@ fn set_command(mut state: [u64; 20], kind: u64, place: u64) -> [u64; 20] {
 }
 
 // Sets a tab on a line.
-fn set_tab(mut state: [u64; 20], line: usize) -> [u64; 20] {
+fn set_tab(mut state: [u64; STATE_WORDS], line: usize) -> [u64; STATE_WORDS] {
     state[12] = tab_bit(line);
     state[13] = tab_bit(std::num::wrapping_sub_usize(line, 64));
     state
 }
 
 // Sets a part of the state.
-fn set_state(mut state: [u64; 20], word: u64, number: usize) -> [u64; 20] {
+fn set_state(mut state: [u64; STATE_WORDS], word: u64, number: usize) -> [u64; STATE_WORDS] {
     let place = place_of(word);
-    if place < 20 {
+    if place < STATE_WORDS {
         state[place] = number as u64;
         return state;
     }

@@ -10,7 +10,7 @@ use Rattle.sheet.specs.Form.{rows-above}
 use Rattle.printer.specs.declared.Pending.{Pending}
 use Rattle.printer.specs.declared.Pending.the-variants.{Nothing, Escape, Tabs, Reset, Select, SelectLow, CountHigh, CountLow, AddressHigh, AddressLow, Payload}
 use Rattle.printer.specs.declared.Printer.{Printer}
-use Rattle.words.specs.Words.{Ranged, is-state, pending-words, pitch-word, state-words, truth}
+use Rattle.words.specs.Words.{Ranged, is-state, pending-words, pitch-word, state-size, state-words, truth}
 use Rattle.words.proofs.Kept.{put-is-state}
 
 -- to the last word: those before stay
@@ -53,7 +53,8 @@ fourteen p rows fresh plotted plotting pitch elongated underscore downloaded =
     p .form .lines ∷ p .form .spacing ∷ p .job ∷ rows ∷ p .head .column ∷ fresh ∷ plotted ∷ plotting
     ∷ pitch ∷ elongated ∷ underscore ∷ downloaded ∷ p .tabs .low ∷ p .tabs .high ∷ []
 
-pub wrote-state : (p : Printer) (old : List ℕ) {new : List ℕ} {rows fresh plotted plotting pitch elongated underscore downloaded : ℕ} → length old ≡ 20
+pub wrote-state : (p : Printer) (old : List ℕ) {new : List ℕ} {rows fresh plotted plotting pitch elongated underscore downloaded : ℕ}
+    → length old ≡ state-size
     → p .job ≤ 4294967295
     → rows ≡ rows-above (p .head .row)
     → fresh ≡ truth (p .head .fresh)

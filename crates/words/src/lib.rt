@@ -37,7 +37,7 @@ fn pitch_word(pitch: Pitch) -> u64
 
 // Writes the six words of what is pending.
 fn six(state: &mut [u64], kind: u64, place: u32, byte: u8, count: u16, address: u16, taken: u16)
-    requires { ⌜ length (now state) ≡ 20 ⌝ }
+    requires { ⌜ length (now state) ≡ state-size ⌝ }
     ensures { λ _. ⌜ now (state .exit) ≡ take 14 (now (state .entry)) ++ (kind ∷ place ∷ byte ∷ count ∷ address ∷ taken ∷ []) ⌝ }
     ensures { λ _. ⌜ (place ≤ 4294967295) × (byte ≤ 255) × (count ≤ 65535) × (address ≤ 65535) × (taken ≤ 65535) ⌝ }
 {
@@ -50,7 +50,7 @@ fn six(state: &mut [u64], kind: u64, place: u32, byte: u8, count: u16, address: 
 }
 
 fn put_pending(state: &mut [u64], pending: Pending)
-    requires { ⌜ length (now state) ≡ 20 ⌝ }
+    requires { ⌜ length (now state) ≡ state-size ⌝ }
     ensures { λ _. ⌜ now (state .exit) ≡ take 14 (now (state .entry)) ++ pending-words pending ⌝ }
     ensures { λ _. ⌜ Ranged pending ⌝ }
 {
