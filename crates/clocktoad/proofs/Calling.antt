@@ -12,14 +12,19 @@ use Rattle.printer.specs.declared.Closing.{Closing}
 use Rattle.printer.specs.declared.Printer.{Printer}
 use Rattle.printer.specs.Closing.{closing}
 use Rattle.printer.specs.Given.{machine}
-use Rattle.printer.specs.Machine.{Machine, shut, with-printer}
+use Rattle.printer.specs.Machine.{Machine, shut}
+use Rattle.printer.specs.Sound.{sound}
 use Rattle.protocol.specs.declared.Answer.{Answer}
 use Rattle.protocol.specs.declared.Answer.the-variants.{Done, Finished, Noted, JobFull, Unsound, Misfit, WrongLines, WrongSpacing}
 use Rattle.protocol.specs.declared.Lent.the-variants.{Page, LineStore, Staging, DownloadStore, Font}
 use Rattle.printer.specs.Numbers.{close-report, value}
 use Rattle.protocol.specs.Answers.{lent-number, refusal, report}
-use Rattle.protocol.specs.Calls.{Feeding, Opening, feeding, opening}
-use Rattle.protocol.proofs.Ways.{feed-nothing, refused-alike, refused-same}
+use Rattle.protocol.specs.declared.Fit.{Fit}
+use Rattle.protocol.specs.declared.Fit.the-variants.{Right, Wrong}
+use Rattle.protocol.specs.declared.Lent as lent
+use Rattle.protocol.specs.Calls.{Feeding, Opening, feed-fitted, feeding, fit, opening}
+use Rattle.protocol.proofs.Answering.{taking-heeds}
+use Rattle.protocol.proofs.Ways.{feed-misfit, feed-unsound}
 use Rattle.clocktoad.specs.Calls.{Called, Closed, called, close-call, closing-report, closing-words, feed-call, feeding-report, feeding-words}
 use Rattle.clocktoad.specs.Calls.{open-call, opening-words, refused-or, report-size}
 use Rattle.words.specs.Words.{is-state, state-of, state-size, state-words}
@@ -76,19 +81,24 @@ refusal-numbers (Misfit Font) q = omega arith
 refusal-numbers WrongLines q = omega arith
 refusal-numbers WrongSpacing q = omega arith
 
--- What an empty piece is refused with is what any is, and it leaves the machine as it is.
-module _ (font piece : List ℕ) (m : Machine) (f : Feeding) (e : f ≡ feeding lp2 font [] m) where
-  same-refusal : (t : Bool) → refusal (feeding lp2 font [] m .answer) ≡ t
-      → refused-or 22 (feeding lp2 font [] m .answer) ≡ refused-or 22 (feeding lp2 font piece m .answer)
-  unfolding refused-or
-  same-refusal true q = ap (λ (x : Feeding). refused-or 22 (x .answer)) (sym (refused-same lp2 font piece m q))
-  same-refusal false q = rw (refused-alike lp2 font piece m, q)
+-- A report of the wrong length comes after all that feeding refuses besides.
+module _ (font piece : List ℕ) (m : Machine) where
+  abbrev unheard : Feeding → ℕ
+  unheard f = refused-or 22 (f .answer)
 
-  pub unheard : {number : ℕ} → number ≡ refused-or 22 (f .answer) → number ≡ refused-or 22 (feeding lp2 font piece m .answer)
-  unheard n = n ∙ ap (λ (x : Feeding). refused-or 22 (x .answer)) e ∙ same-refusal (refusal (feeding lp2 font [] m .answer)) refl
+  pub unsound-first : sound lp2 (m .printer) ≡ false → 10 ≡ unheard (feeding lp2 font piece m)
+  unfolding refused-or refusal report
+  unsound-first s = ap unheard (feed-unsound lp2 font piece m s)
 
-  pub unmoved : with-printer (m .printer) (f .machine) ≡ m
-  unmoved = ap (with-printer (m .printer)) (ap (λ (x : Feeding). x .machine) e ∙ feed-nothing lp2 font [] m)
+  module _ (s : sound lp2 (m .printer) ≡ true) {tested : Fit} (is : tested ≡ fit lp2 (m .printer .form) font m) where
+    pub misfit-first : {lent : lent.Lent} {number : ℕ} → tested ≡ Wrong lent → number ≡ report (Misfit lent) .number
+        → number ≡ unheard (feeding lp2 font piece m)
+    unfolding refused-or refusal
+    misfit-first w n = n ∙ ap unheard (feed-misfit lp2 font piece m s is w)
+
+    pub report-last : tested ≡ Right → 22 ≡ unheard (feeding lp2 font piece m)
+    unfolding refused-or feeding feed-fitted
+    report-last r = rw (s, ← is, r, taking-heeds lp2 font piece m)
 
 module _ (x : Lent) (piece told : List ℕ) where
   abbrev pub at-feed : Called
@@ -106,11 +116,10 @@ module _ (x : Lent) (piece told : List ℕ) where
     abbrev lent-to : Machine
     lent-to = machine p (x .page) (x .line) (x .staging) (x .store)
 
-    pub feed-unreported : {number : ℕ} (left : Machine) → (length told ≡ report-size → ⊥)
-        → number ≡ refused-or 22 (feeding lp2 (x .font) piece lent-to .answer) → left ≡ lent-to
-        → Feeds (called number (x .state) (left .page) (left .line) (left .staging) (left .store) told)
+    pub feed-unreported : {number : ℕ} → (length told ≡ report-size → ⊥)
+        → number ≡ refused-or 22 (feeding lp2 (x .font) piece lent-to .answer) → Feeds (left-alone x number told)
     unfolding feed-call
-    feed-unreported left n r e = (rw (q, ne-eqb (length told) report-size n, r, e, s), λ m. q)
+    feed-unreported n r = (rw (q, ne-eqb (length told) report-size n, r, s), λ m. q)
 
     pub feeds : (f : Feeding) → length told ≡ report-size → f ≡ feeding lp2 (x .font) piece lent-to → feeding-words f (x .state) told ≡ at-feed
     unfolding feed-call

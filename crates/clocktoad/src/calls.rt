@@ -10,17 +10,20 @@ ghost use Rattle.protocol.specs.Calls.{feeding};
 ghost use Rattle.words.specs.Words.{is-state, state-size};
 ghost use Rattle.clocktoad.specs.Calls.{called, close-call, feed-call, open-call, refused-or, report-size};
 use answers::admit;
+use answers::fit;
 use job::calls::close;
 use job::calls::feed;
 use job::calls::open;
 use printer::Printer;
 use protocol::Answer;
+use protocol::Fit;
 use protocol::numbers::answer_number;
 use protocol::numbers::close_number;
 use protocol::numbers::close_place;
 use protocol::numbers::noted_number;
 use protocol::numbers::noted_place;
 use protocol::numbers::refusal;
+use state::sound;
 use words::STATE_WORDS;
 use words::is_state;
 use words::put;
@@ -77,24 +80,27 @@ pub extern "C" fn clocktoad_open(
     answer_number(answer)
 }
 
-// The answer to a feeding with a report of the wrong length: 22, after all that feeding refuses besides. It refuses an empty piece as it does any other, and
-// of that it takes nothing.
+// The answer to a feeding with a report of the wrong length: 22, after all that feeding refuses besides.
 fn unreported(
     p: Printer,
-    page: &mut [u8],
-    line: &mut [u16],
-    staging: &mut [u8],
-    store: &mut [u8],
+    page: &[u8],
+    line: &[u16],
+    staging: &[u8],
+    store: &[u8],
     font: &[u8],
 ) -> u64
     ensures { λ r. ⌜ ((piece : List ℕ) → r ≡ refused-or 22 (feeding lp2 (now (font .entry)) piece
         (machine p (now (page .entry)) (now (line .entry)) (now (staging .entry)) (now (store .entry))) .answer)) ⌝ }
-    ensures { λ _. ⌜ machine p (now (page .exit)) (now (line .exit)) (now (staging .exit)) (now (store .exit))
-        ≡ machine p (now (page .entry)) (now (line .entry)) (now (staging .entry)) (now (store .entry)) ⌝ }
 {
-    let fed = feed(p, &font[..0], page, line, staging, store, font);
-    let answer = fed.answer;
-    refused_or(22, answer)
+    if !sound(p) {
+        return 10;
+    }
+    let form = p.form;
+    let fitting = fit(form, page, line, staging, store, font);
+    match fitting {
+        Fit::Wrong(lent) => answer_number(Answer::Misfit(lent)),
+        Fit::Right => 22,
+    }
 }
 
 // Feeds a piece of the job.

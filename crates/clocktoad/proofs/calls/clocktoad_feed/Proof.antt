@@ -8,8 +8,6 @@ use mathlib.Core.List.{List}
 use mathlib.Core.Path.{_≡_, sym, _∙_}
 use borrow.Author.Tests.{not-false, not-true}
 use lib.ListN.{length}
-use Rattle.printer.specs.Given.{machine}
-use Rattle.printer.specs.Machine.{Machine}
 use Rattle.protocol.specs.Calls.{Feeding}
 use Rattle.protocol.specs.Given.{given-feeding}
 use Rattle.clocktoad.specs.Calls.{feeding-words, report-size}
@@ -49,12 +47,6 @@ fed-as-asked c =
     feeds (lent s) (piece s) (told s) (held (else1-at-feed c)) (state-of2-at-feed c .state-of2 .ensures) (fed c) (report-right (else2-at-feed c))
     (c .feed .ensures)
 
--- what is left where the report has the wrong length; the first argument is the state
-abbrev unfed : tie.After-unreported → Machine
-unfed c =
-    let m = c .unreported .last .1 in
-    machine (state-of-at-unreported c .state-of .result) (m .0) (m .1 .0) (m .1 .1 .0) (m .1 .1 .1 .0)
-
 returns : tie.Need-returns
 returns c =
     let s = start-at-returns c in
@@ -66,9 +58,8 @@ state-of-requires c κs = state-halves _ (held (else1-at-state-of-requires c))
 returns-2 : tie.Need-returns-2
 returns-2 c =
     let s = start-at-returns-2 c in
-    let u = unreported-at-returns-2 c in
-    feed-unreported (lent s) (piece s) (told s) (held (else1-at-returns-2 c)) (state-of-at-unreported u .state-of .ensures) (unfed u)
-    (then2-at-returns-2 c .if2 .taken) (u .unreported .ensures .0 (piece s)) (u .unreported .ensures .1)
+    feed-unreported (lent s) (piece s) (told s) (held (else1-at-returns-2 c)) (state-of-at-returns-2 c .state-of .ensures)
+    (then2-at-returns-2 c .if2 .taken) (c .unreported .ensures (piece s))
 
 state-of-requires-2 : tie.Need-state-of-requires-2
 state-of-requires-2 c κs = state-halves _ (held (else1-at-state-of-requires-2 c))

@@ -1,33 +1,49 @@
--- `calls::unreported`: an empty piece is refused as any is, and leaves everything as it is.
+-- `calls::unreported`: the state and the lengths are tested as feeding tests them; where all is right, the report alone is wrong.
 mod Places
 use borrow.Author.Needs.{needs}
+use mathlib.Core.Bool.{true}
+use mathlib.Core.Path.{_≡_, sym, _∙_}
+use borrow.Author.Tests.{not-false, not-true}
+use Rattle.sheet.specs.Edition.{lp2}
 use Rattle.printer.specs.Given.{machine}
 use Rattle.printer.specs.Machine.{Machine}
-use Rattle.protocol.specs.Calls.{Feeding}
-use Rattle.protocol.specs.Given.{given-feeding}
-use Rattle.clocktoad.proofs.Calling.{unheard, unmoved}
+use Rattle.printer.specs.Sound.{sound}
+use Rattle.printer.proofs.Soundness.{sound-facts}
+use Rattle.clocktoad.proofs.Calling.{misfit-first, report-last, unsound-first}
 use Rattle.clocktoad.proofs.calls.unreported.Statement.{statement}
 use Rattle.clocktoad.proofs.calls.unreported.Tie as tie
 use Places.*
 
--- the machine that is fed
+-- the machine that would be fed
 abbrev fed-to : tie.Start → Machine
 fed-to s = let a = s .args in machine (a .p) (a .page .now) (a .line .now) (a .staging .now) (a .store .now)
 
--- what `feed` gave back; its first two arguments are the state and the piece
-abbrev fed : tie.After-feed → Feeding
-fed c = let m = c .feed .last .1 .1 in given-feeding (c .feed .result) (m .0) (m .1 .0) (m .1 .1 .0) (m .1 .1 .1 .0)
+-- past the first test the state is sound
+is-sound : (c : tie.Else1) → sound lp2 (start-at-else1 c .args .p) ≡ true
+is-sound c = sym (c .before .sound .ensures) ∙ not-false (c .before .sound .result) (c .if1 .left)
 
 returns : tie.Need-returns
-returns c =
+returns c piece =
     let s = start-at-returns c in
-    let f = feed-at-returns c in (
-      λ piece. unheard (s .args .font .now) piece (fed-to s) (fed f) (f .feed .ensures) (c .refused-or .ensures),
-      unmoved (s .args .font .now) (s .args .font .now) (fed-to s) (fed f) (f .feed .ensures),
-    )
+    unsound-first (s .args .font .now) piece (fed-to s) (sym (c .before .sound .ensures) ∙ not-true (c .before .sound .result) (c .if1 .taken))
+
+fit-requires : tie.Need-fit-requires
+unfolding lp2
+fit-requires c κs = sound-facts lp2 _ (is-sound (else1-at-fit-requires c)) .form .most
+
+returns-2 : tie.Need-returns-2
+returns-2 c piece =
+    let s = start-at-returns-2 c in
+    misfit-first (s .args .font .now) piece (fed-to s) (is-sound (else1-at-returns-2 c)) (fit-at-returns-2 c .fit .ensures (s .args .p))
+    (c .before .before .fitting .given .1) (c .answer-number .ensures)
+
+returns-3 : tie.Need-returns-3
+returns-3 c piece =
+    let s = start-at-returns-3 c in
+    report-last (s .args .font .now) piece (fed-to s) (is-sound (else1-at-returns-3 c)) (c .before .before .fit .ensures (s .args .p))
+    (c .enum-told .given .1)
 
 pub unreported-spec : {M : Type 1} → statement M
 unreported-spec =
     tie.close
-    (tie.spec (λ c. search needs) (λ c κs. search needs) (λ c κs. search needs) (λ c. search needs) (λ c. search needs) (λ c. search needs)
-    (λ c. search needs) returns)
+    (tie.spec (λ c κs. search needs) returns fit-requires (λ c. search needs) (λ c κs. search needs) (λ c. search needs) returns-2 returns-3)

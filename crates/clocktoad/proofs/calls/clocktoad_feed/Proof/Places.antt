@@ -8,9 +8,8 @@ abbrev pub else1-at-put-requires : tie.After-put-arg → tie.Else1
 else1-at-put-requires c = c .before .before .before .before .before .before .before .before .before .before .before .before .before .before .before
     .before .before .before .before .before
 
-abbrev pub else1-at-returns-2 : tie.After-slice-known10 → tie.Else1
-else1-at-returns-2 c = c .before .before .before .before .before .before .before .before .before .before .before .before .before .before .before
-    .before
+abbrev pub else1-at-returns-2 : tie.After-unreported → tie.Else1
+else1-at-returns-2 c = c .before .before .before .before .before .before .before .before
 
 abbrev pub else1-at-state-of-requires : tie.After-state-of-arg → tie.Else1
 else1-at-state-of-requires c = c .before .before
@@ -60,9 +59,9 @@ start-at-feed c = c .before .before .before .before .before .before .before .bef
 abbrev pub start-at-returns : tie.Then1 → tie.Start
 start-at-returns c = c .before .before .before .before .before .before .before .before .before .before .before
 
-abbrev pub start-at-returns-2 : tie.After-slice-known10 → tie.Start
+abbrev pub start-at-returns-2 : tie.After-unreported → tie.Start
 start-at-returns-2 c = c .before .before .before .before .before .before .before .before .before .before .before .before .before .before .before
-    .before .before .before .before .before .before .before .before .before .before .before .before
+    .before .before .before .before
 
 abbrev pub start-at-returns-3 : tie.After-answer-number → tie.Start
 start-at-returns-3 c = c .before .before .before .before .before .before .before .before .before .before .before .before .before .before .before
@@ -73,14 +72,11 @@ start-at-returns-4 c = c .before .before .before .before .before .before .before
     .before .before .before .before .before .before .before .before .before .before .before .before .before .before .before .before .before .before
     .before .before .before .before .before .before .before .before
 
-abbrev pub state-of-at-unreported : tie.After-unreported → tie.After-state-of
-state-of-at-unreported c = c .before .before .before .before .before
+abbrev pub state-of-at-returns-2 : tie.After-unreported → tie.After-state-of
+state-of-at-returns-2 c = c .before .before .before .before .before
 
 abbrev pub state-of2-at-feed : tie.After-feed → tie.After-state-of2
 state-of2-at-feed c = c .before .before .before .before .before
 
-abbrev pub then2-at-returns-2 : tie.After-slice-known10 → tie.Then2
-then2-at-returns-2 c = c .before .before .before .before .before .before .before .before .before .before .before .before .before .before .before
-
-abbrev pub unreported-at-returns-2 : tie.After-slice-known10 → tie.After-unreported
-unreported-at-returns-2 c = c .before .before .before .before .before .before .before .before
+abbrev pub then2-at-returns-2 : tie.After-unreported → tie.Then2
+then2-at-returns-2 c = c .before .before .before .before .before .before .before
