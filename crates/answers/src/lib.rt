@@ -1,7 +1,7 @@
 // What the calls answer: which of what is lent doesn't fit, the state at the start of a job, and what a call gives back.
 ghost use mathlib.Core.Path.{_≡_};
 ghost use Prim.Native.Nat.{_+_, _≤_};
-ghost use Rattle.sheet.specs.Edition.{lp2};
+ghost use Rattle.sheet.specs.Edition.{described};
 ghost use Rattle.printer.specs.declared.Printer.{Printer};
 ghost use Rattle.printer.specs.Given.{machine};
 ghost use Rattle.printer.specs.Machine.{new-printer, shut};
@@ -11,6 +11,7 @@ use printer::Event;
 use printer::Head;
 use printer::Pending;
 use printer::Printer;
+use printer::STORE_BYTES;
 use printer::Stepped;
 use printer::Style;
 use printer::TabSet;
@@ -20,31 +21,41 @@ use protocol::Fit;
 use protocol::Lent;
 use protocol::Opened;
 use sheet::Form;
+use sheet::Model;
 use sheet::Pitch;
 use sheet::counts::top;
+use sheet::sizes::line_numbers;
 use sheet::sizes::lines_allowed;
 use sheet::sizes::page_bytes;
 use sheet::sizes::spacing_allowed;
 
 // The first of what is lent that has not its exact length.
-pub fn fit(form: Form, page: &[u8], line: &[u16], staging: &[u8], store: &[u8], font: &[u8]) -> Fit
-    requires { ⌜ form .lines ≤ 99 ⌝ }
+pub fn fit(
+    model: Model,
+    form: Form,
+    page: &[u8],
+    line: &[u16],
+    staging: &[u8],
+    store: &[u8],
+    font: &[u8],
+) -> Fit
+    requires { ⌜ form .lines ≤ 112 ⌝ }
     ensures { λ r. ⌜ ((p : Printer) → r
-        ≡ fit lp2 form (now (font .entry)) (machine p (now (page .entry)) (now (line .entry)) (now (staging .entry)) (now (store .entry)))) ⌝ }
+        ≡ fit (described model) form (now (font .entry)) (machine p (now (page .entry)) (now (line .entry)) (now (staging .entry)) (now (store .entry)))) ⌝ }
 {
-    if page.len() != page_bytes(form) {
+    if page.len() != page_bytes(model, form) {
         return Fit::Wrong(Lent::Page);
     }
-    if line.len() != 2200 {
+    if line.len() != line_numbers(model) {
         return Fit::Wrong(Lent::LineStore);
     }
-    if staging.len() != 2048 {
+    if staging.len() != STORE_BYTES {
         return Fit::Wrong(Lent::Staging);
     }
-    if store.len() != 2048 {
+    if store.len() != STORE_BYTES {
         return Fit::Wrong(Lent::DownloadStore);
     }
-    if font.len() != 2048 {
+    if font.len() != STORE_BYTES {
         return Fit::Wrong(Lent::Font);
     }
     Fit::Right
@@ -52,6 +63,7 @@ pub fn fit(form: Form, page: &[u8], line: &[u16], staging: &[u8], store: &[u8], 
 
 // What opening answers to what is lent, before it writes anything.
 pub fn admit(
+    model: Model,
     lines: usize,
     spacing: usize,
     page: &[u8],
@@ -61,17 +73,17 @@ pub fn admit(
     font: &[u8],
 ) -> Answer
     ensures { λ r. ⌜ ((p : Printer) → r
-        ≡ opening lp2 lines spacing (now (font .entry))
+        ≡ opening model lines spacing (now (font .entry))
         (machine p (now (page .entry)) (now (line .entry)) (now (staging .entry)) (now (store .entry))) .answer) ⌝ }
 {
-    if !lines_allowed(lines) {
+    if !lines_allowed(model, lines) {
         return Answer::WrongLines;
     }
     if !spacing_allowed(spacing) {
         return Answer::WrongSpacing;
     }
     let form = Form { lines, spacing };
-    let fitting = fit(form, page, line, staging, store, font);
+    let fitting = fit(model, form, page, line, staging, store, font);
     match fitting {
         Fit::Wrong(lent) => Answer::Misfit(lent),
         Fit::Right => Answer::Done,
@@ -79,8 +91,8 @@ pub fn admit(
 }
 
 // The state at the start of a job.
-pub fn new_printer(form: Form) -> Printer
-    ensures { λ r. ⌜ r ≡ new-printer form ⌝ }
+pub fn new_printer(model: Model, form: Form) -> Printer
+    ensures { λ r. ⌜ r ≡ new-printer model form ⌝ }
 {
     let head = Head {
         row: top(),
@@ -97,6 +109,7 @@ pub fn new_printer(form: Form) -> Printer
     };
     let tabs = TabSet { low: 0, high: 0 };
     Printer {
+        model,
         form,
         job: 0,
         pending: Pending::Nothing,
@@ -107,15 +120,15 @@ pub fn new_printer(form: Form) -> Printer
 }
 
 // A refused opening, with the shut state.
-pub fn unopened(answer: Answer) -> Opened
-    ensures { λ r. ⌜ r ≡ record { printer = shut; answer = answer } ⌝ }
+pub fn unopened(model: Model, answer: Answer) -> Opened
+    ensures { λ r. ⌜ r ≡ record { printer = shut model; answer = answer } ⌝ }
 {
     let form = Form {
         lines: 0,
         spacing: 0,
     };
     Opened {
-        printer: new_printer(form),
+        printer: new_printer(model, form),
         answer,
     }
 }

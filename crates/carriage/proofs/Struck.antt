@@ -7,7 +7,7 @@ use lib.ListN.{drop}
 use Rattle.sheet.specs.declared.Line.{Line}
 use Rattle.sheet.specs.declared.Row.{Row}
 use Rattle.sheet.specs.Dots.{struck}
-use Rattle.sheet.specs.Edition.{lp2}
+use Rattle.sheet.specs.Edition.{Edition}
 use Rattle.sheet.specs.Form.{empty-line, first-line, first-row, fits, lines-through, lower, next-line, rows-per-line, top}
 use Rattle.printer.specs.declared.Event.{Event}
 use Rattle.printer.specs.declared.NextTab.{NextTab}
@@ -21,49 +21,49 @@ use Rattle.printer.specs.Tabs.{line-tabs}
 use Rattle.printer.specs.Terminators.{carriage-return, current-line, first-tab, form-feed, newline, strike, tab-to, vertical-tab}
 
 -- a line struck and the head on a fresh one, whatever is said of it
-pub done : (m : Machine) {next : Row} {r : Stepped} {q : Printer} {v : Event} {page line : List ℕ} →
+pub done : (e : Edition) (m : Machine) {next : Row} {r : Stepped} {q : Printer} {v : Event} {page line : List ℕ} →
     r ≡ stepped q v → q ≡ with-head (fresh-head next) m .printer →
-    page ≡ struck lp2 (m .page) (m .line) (m .printer .head .row) (m .printer .style .pitch) → line ≡ empty-line lp2 →
-    given r page line (m .staging) (m .store) ≡ record { machine = strike lp2 next m; event = v }
+    page ≡ struck e (m .page) (m .line) (m .printer .head .row) (m .printer .style .pitch) → line ≡ empty-line e →
+    given r page line (m .staging) (m .store) ≡ record { machine = strike e next m; event = v }
 unfolding strike
-done m said moved inked emptied = rw (said, moved, inked, emptied)
+done e m said moved inked emptied = rw (said, moved, inked, emptied)
 
-module _ (m : Machine) where
+module _ (e : Edition) (m : Machine) where
   module _ {rows : ℕ} {next : Row}
       (advance : rows ≡ cond (m .printer .head .plotted) 7 (rows-per-line (m .printer .form .spacing)))
       (down : next ≡ lower rows (m .printer .head .row)) where
-    pub line-down : {s : Step} → s ≡ quiet (strike lp2 next m) → fits (m .printer .form) next ≡ true → s ≡ newline lp2 m
+    pub line-down : {s : Step} → s ≡ quiet (strike e next m) → fits (m .printer .form) next ≡ true → s ≡ newline e m
     unfolding newline
-    line-down e h = simp (← advance, ← down, h) e
+    line-down q h = simp (← advance, ← down, h) q
 
-    pub form-over : {s : Step} {first : Row} → first ≡ top → s ≡ finished (strike lp2 first m) → fits (m .printer .form) next ≡ false
-        → s ≡ newline lp2 m
+    pub form-over : {s : Step} {first : Row} → first ≡ top → s ≡ finished (strike e first m) → fits (m .printer .form) next ≡ false
+        → s ≡ newline e m
     unfolding newline
-    form-over t e h = simp (← advance, ← down, h, ← t) e
+    form-over t q h = simp (← advance, ← down, h, ← t) q
 
-  pub form-fed : {s : Step} {first : Row} → first ≡ top → s ≡ finished (strike lp2 first m) → s ≡ form-feed lp2 m
+  pub form-fed : {s : Step} {first : Row} → first ≡ top → s ≡ finished (strike e first m) → s ≡ form-feed e m
   unfolding form-feed
-  form-fed t e = simp (← t) e
+  form-fed t q = simp (← t) q
 
-  pub tabbed-to : {s : Step} {n : Line} {below lowest : NextTab} → s ≡ tab-to lp2 below lowest m → n ≡ current-line m →
+  pub tabbed-to : {s : Step} {n : Line} {below lowest : NextTab} → s ≡ tab-to e below lowest m → n ≡ current-line m →
       below ≡ first-tab (next-line n) (drop (lines-through n) (line-tabs (m .printer .tabs))) →
       lowest ≡ first-tab first-line (line-tabs (m .printer .tabs)) →
-      s ≡ vertical-tab lp2 m
+      s ≡ vertical-tab e m
   unfolding vertical-tab
-  tabbed-to e current under first = simp (← current, ← under, ← first) e
+  tabbed-to q current under first = simp (← current, ← under, ← first) q
 
 -- where a tab leads: to the line below, to the first one of the next form, or nowhere
-module _ (m : Machine) {below : NextTab} where
+module _ (e : Edition) (m : Machine) {below : NextTab} where
   pub to-below : (lowest : NextTab) {n : Line} {r : Row} → below ≡ Tabbed n → r ≡ first-row (m .printer .form) n →
-      quiet (strike lp2 r m) ≡ tab-to lp2 below lowest m
+      quiet (strike e r m) ≡ tab-to e below lowest m
   unfolding tab-to
   to-below lowest b r = rw (b, r)
 
   pub to-lowest : {lowest : NextTab} {n : Line} {r : Row} → below ≡ Untabbed → lowest ≡ Tabbed n → r ≡ first-row (m .printer .form) n →
-      finished (strike lp2 r m) ≡ tab-to lp2 below lowest m
+      finished (strike e r m) ≡ tab-to e below lowest m
   unfolding tab-to
   to-lowest b l r = rw (b, l, r)
 
-  pub stays : {lowest : NextTab} → below ≡ Untabbed → lowest ≡ Untabbed → carriage-return lp2 m ≡ tab-to lp2 below lowest m
+  pub stays : {lowest : NextTab} → below ≡ Untabbed → lowest ≡ Untabbed → carriage-return e m ≡ tab-to e below lowest m
   unfolding tab-to
   stays b l = rw (b, l)

@@ -4,9 +4,9 @@ ghost use mathlib.Core.Bool.{cond};
 ghost use mathlib.Core.List.{List};
 ghost use Prim.Native.Nat.{ℕ, _+_, _≤_};
 ghost use lib.ListN.{drop};
-ghost use Rattle.sheet.specs.Edition.{lp2};
 ghost use Rattle.sheet.specs.Form.{line, rows-per-line};
 ghost use Rattle.printer.specs.Given.{given, machine};
+ghost use Rattle.printer.specs.Machine.{edition-of};
 ghost use Rattle.printer.specs.Room.{Kept, Strikable};
 ghost use Rattle.printer.specs.Steps.{finished, quiet};
 ghost use Rattle.printer.specs.Tabs.{line-tabs};
@@ -31,24 +31,25 @@ use striking::strike;
 
 // Strikes the line in progress at the current row; the head goes to a fresh line at row `next`.
 fn line_done(p: Printer, next: Row, page: &mut [u8], line: &mut [u16]) -> Stepped
-    requires { ⌜ Strikable p (now page) (now line) ⌝ }
+    requires { ⌜ Strikable (edition-of p) p (now page) (now line) ⌝ }
     ensures { λ r. ⌜ ((staging store : List ℕ)
         → given r (now (page .exit)) (now (line .exit)) staging store
-        ≡ quiet (strike lp2 next (machine p (now (page .entry)) (now (line .entry)) staging store))) ⌝ }
+        ≡ quiet (strike (edition-of p) next (machine p (now (page .entry)) (now (line .entry)) staging store))) ⌝ }
 {
+    let model = p.model;
     let row = p.head.row;
     let style = p.style;
     let pitch = style.pitch;
-    strike(page, line, row, pitch);
+    strike(model, page, line, row, pitch);
     quiet(fresh(p, next))
 }
 
 // The same, and with it the form is finished: row `next` is on the form that follows.
 fn form_done(p: Printer, next: Row, page: &mut [u8], line: &mut [u16]) -> Stepped
-    requires { ⌜ Strikable p (now page) (now line) ⌝ }
+    requires { ⌜ Strikable (edition-of p) p (now page) (now line) ⌝ }
     ensures { λ r. ⌜ ((staging store : List ℕ)
         → given r (now (page .exit)) (now (line .exit)) staging store
-        ≡ finished (strike lp2 next (machine p (now (page .entry)) (now (line .entry)) staging store))) ⌝ }
+        ≡ finished (strike (edition-of p) next (machine p (now (page .entry)) (now (line .entry)) staging store))) ⌝ }
 {
     let s = line_done(p, next, page, line);
     let after = s.printer;
@@ -69,9 +70,10 @@ fn advance(p: Printer) -> usize
 
 // 0A.
 pub fn newline(p: Printer, page: &mut [u8], line: &mut [u16]) -> Stepped
-    requires { ⌜ Strikable p (now page) (now line) ⌝ }
+    requires { ⌜ Strikable (edition-of p) p (now page) (now line) ⌝ }
     ensures { λ r. ⌜ ((staging store : List ℕ)
-        → given r (now (page .exit)) (now (line .exit)) staging store ≡ newline lp2 (machine p (now (page .entry)) (now (line .entry)) staging store)) ⌝ }
+        → given r (now (page .exit)) (now (line .exit)) staging store
+        ≡ newline (edition-of p) (machine p (now (page .entry)) (now (line .entry)) staging store)) ⌝ }
 {
     let form = p.form;
     let row = p.head.row;
@@ -85,20 +87,20 @@ pub fn newline(p: Printer, page: &mut [u8], line: &mut [u16]) -> Stepped
 
 // 0C.
 pub fn form_feed(p: Printer, page: &mut [u8], line: &mut [u16]) -> Stepped
-    requires { ⌜ Strikable p (now page) (now line) ⌝ }
+    requires { ⌜ Strikable (edition-of p) p (now page) (now line) ⌝ }
     ensures { λ r. ⌜ ((staging store : List ℕ)
         → given r (now (page .exit)) (now (line .exit)) staging store
-        ≡ form-feed lp2 (machine p (now (page .entry)) (now (line .entry)) staging store)) ⌝ }
+        ≡ form-feed (edition-of p) (machine p (now (page .entry)) (now (line .entry)) staging store)) ⌝ }
 {
     form_done(p, top(), page, line)
 }
 
 // 0D.
 pub fn carriage_return(p: Printer, page: &mut [u8], line: &mut [u16]) -> Stepped
-    requires { ⌜ Strikable p (now page) (now line) ⌝ }
+    requires { ⌜ Strikable (edition-of p) p (now page) (now line) ⌝ }
     ensures { λ r. ⌜ ((staging store : List ℕ)
         → given r (now (page .exit)) (now (line .exit)) staging store
-        ≡ carriage-return lp2 (machine p (now (page .entry)) (now (line .entry)) staging store)) ⌝ }
+        ≡ carriage-return (edition-of p) (machine p (now (page .entry)) (now (line .entry)) staging store)) ⌝ }
 {
     let row = p.head.row;
     line_done(p, row, page, line)
@@ -122,10 +124,10 @@ fn first_tab(p: Printer, above: usize) -> NextTab
 
 // To the tabbed line below, to the lowest-numbered on the next form, or nowhere.
 fn tab_to(p: Printer, below: NextTab, lowest: NextTab, page: &mut [u8], line: &mut [u16]) -> Stepped
-    requires { ⌜ Strikable p (now page) (now line) × Kept below × Kept lowest ⌝ }
+    requires { ⌜ Strikable (edition-of p) p (now page) (now line) × Kept below × Kept lowest ⌝ }
     ensures { λ r. ⌜ ((staging store : List ℕ)
         → given r (now (page .exit)) (now (line .exit)) staging store
-        ≡ tab-to lp2 below lowest (machine p (now (page .entry)) (now (line .entry)) staging store)) ⌝ }
+        ≡ tab-to (edition-of p) below lowest (machine p (now (page .entry)) (now (line .entry)) staging store)) ⌝ }
 {
     let form = p.form;
     match below {
@@ -139,10 +141,10 @@ fn tab_to(p: Printer, below: NextTab, lowest: NextTab, page: &mut [u8], line: &m
 
 // 0B.
 pub fn vertical_tab(p: Printer, page: &mut [u8], line: &mut [u16]) -> Stepped
-    requires { ⌜ Strikable p (now page) (now line) ⌝ }
+    requires { ⌜ Strikable (edition-of p) p (now page) (now line) ⌝ }
     ensures { λ r. ⌜ ((staging store : List ℕ)
         → given r (now (page .exit)) (now (line .exit)) staging store
-        ≡ vertical-tab lp2 (machine p (now (page .entry)) (now (line .entry)) staging store)) ⌝ }
+        ≡ vertical-tab (edition-of p) (machine p (now (page .entry)) (now (line .entry)) staging store)) ⌝ }
 {
     let form = p.form;
     let row = p.head.row;

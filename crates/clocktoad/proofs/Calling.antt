@@ -2,17 +2,18 @@
 use Prim.Native.Nat.{ℕ, _≤_}
 use mathlib.Core.Bool.{Bool, true, false, true≢false}
 use mathlib.Core.List.{List, [], _∷_}
-use mathlib.Core.Path.{_≡_, refl, ap, sym, _∙_}
+use mathlib.Core.Path.{_≡_, ap, sym, _∙_}
 use native.Mathlib.Omega.{arith}
 use borrow.Author.Tests.{eq-eqb, ne-eqb}
 use lib.Dec.{eqb}
 use lib.ListN.{length}
-use Rattle.sheet.specs.Edition.{lp2}
+use Rattle.sheet.specs.declared.Model.the-variants.{Lp2}
+use Rattle.sheet.specs.Edition.{Edition}
 use Rattle.printer.specs.declared.Closing.{Closing}
 use Rattle.printer.specs.declared.Printer.{Printer}
 use Rattle.printer.specs.Closing.{closing}
 use Rattle.printer.specs.Given.{machine}
-use Rattle.printer.specs.Machine.{Machine, shut}
+use Rattle.printer.specs.Machine.{Machine, edition-of, shut}
 use Rattle.printer.specs.Sound.{sound}
 use Rattle.protocol.specs.declared.Answer.{Answer}
 use Rattle.protocol.specs.declared.Answer.the-variants.{Done, Finished, Noted, JobFull, Unsound, Misfit, WrongLines, WrongSpacing}
@@ -44,7 +45,7 @@ left-alone x number told = called number (x .state) (x .page) (x .line) (x .stag
 
 module _ (lines spacing : ℕ) (x : Lent) where
   abbrev opens-as : Opening
-  opens-as = opening lp2 lines spacing (x .font) (machine shut (x .page) (x .line) (x .staging) (x .store))
+  opens-as = opening Lp2 lines spacing (x .font) (machine (shut Lp2) (x .page) (x .line) (x .staging) (x .store))
 
   -- what opening is to give, and a state with it where there are words for one
   abbrev Opens : Called → Type 0
@@ -82,23 +83,23 @@ refusal-numbers WrongLines q = omega arith
 refusal-numbers WrongSpacing q = omega arith
 
 -- A report of the wrong length comes after all that feeding refuses besides.
-module _ (font piece : List ℕ) (m : Machine) where
+module _ (e : Edition) (font piece : List ℕ) (m : Machine) where
   abbrev unheard : Feeding → ℕ
   unheard f = refused-or 22 (f .answer)
 
-  pub unsound-first : sound lp2 (m .printer) ≡ false → 10 ≡ unheard (feeding lp2 font piece m)
+  pub unsound-first : sound e (m .printer) ≡ false → 10 ≡ unheard (feeding e font piece m)
   unfolding refused-or refusal report
-  unsound-first s = ap unheard (feed-unsound lp2 font piece m s)
+  unsound-first s = ap unheard (feed-unsound e font piece m s)
 
-  module _ (s : sound lp2 (m .printer) ≡ true) {tested : Fit} (is : tested ≡ fit lp2 (m .printer .form) font m) where
+  module _ (s : sound e (m .printer) ≡ true) {tested : Fit} (is : tested ≡ fit e (m .printer .form) font m) where
     pub misfit-first : {lent : lent.Lent} {number : ℕ} → tested ≡ Wrong lent → number ≡ report (Misfit lent) .number
-        → number ≡ unheard (feeding lp2 font piece m)
+        → number ≡ unheard (feeding e font piece m)
     unfolding refused-or refusal
-    misfit-first w n = n ∙ ap unheard (feed-misfit lp2 font piece m s is w)
+    misfit-first w n = n ∙ ap unheard (feed-misfit e font piece m s is w)
 
-    pub report-last : tested ≡ Right → 22 ≡ unheard (feeding lp2 font piece m)
+    pub report-last : tested ≡ Right → 22 ≡ unheard (feeding e font piece m)
     unfolding refused-or feeding feed-fitted
-    report-last r = rw (s, ← is, r, taking-heeds lp2 font piece m)
+    report-last r = rw (s, ← is, r, taking-heeds e font piece m)
 
 module _ (x : Lent) (piece told : List ℕ) where
   abbrev pub at-feed : Called
@@ -117,11 +118,11 @@ module _ (x : Lent) (piece told : List ℕ) where
     lent-to = machine p (x .page) (x .line) (x .staging) (x .store)
 
     pub feed-unreported : {number : ℕ} → (length told ≡ report-size → ⊥)
-        → number ≡ refused-or 22 (feeding lp2 (x .font) piece lent-to .answer) → Feeds (left-alone x number told)
+        → number ≡ refused-or 22 (feeding (edition-of p) (x .font) piece lent-to .answer) → Feeds (left-alone x number told)
     unfolding feed-call
     feed-unreported n r = (rw (q, ne-eqb (length told) report-size n, r, s), λ m. q)
 
-    pub feeds : (f : Feeding) → length told ≡ report-size → f ≡ feeding lp2 (x .font) piece lent-to → feeding-words f (x .state) told ≡ at-feed
+    pub feeds : (f : Feeding) → length told ≡ report-size → f ≡ feeding (edition-of p) (x .font) piece lent-to → feeding-words f (x .state) told ≡ at-feed
     unfolding feed-call
     feeds f k e = simp (eq-eqb (length told) report-size k, q, e, s)
 
@@ -154,7 +155,7 @@ module _ (state told : List ℕ) where
   unfolding close-call
   close-10 q = simp q
 
-  pub closes : (c : Closing) {p : Printer} → is-state state ≡ true → p ≡ state-of state → c ≡ closing lp2 p → closing-words c told ≡ at-close
+  pub closes : (c : Closing) {p : Printer} → is-state state ≡ true → p ≡ state-of state → c ≡ closing (edition-of p) p → closing-words c told ≡ at-close
   unfolding close-call
   closes c q p e = simp (q, e, p)
 

@@ -5,11 +5,12 @@ use mathlib.Core.Bool.{cond}
 use mathlib.Core.List.{List, [], _∷_}
 use lib.Dec.{eqb}
 use lib.ListN.{length}
-use Rattle.sheet.specs.Edition.{lp2}
+use Rattle.sheet.specs.declared.Model.the-variants.{Lp2}
 use Rattle.printer.specs.declared.Closing.{Closing}
+use Rattle.printer.specs.declared.Printer.{Printer}
 use Rattle.printer.specs.Closing.{closing}
 use Rattle.printer.specs.Given.{machine}
-use Rattle.printer.specs.Machine.{shut}
+use Rattle.printer.specs.Machine.{edition-of, shut}
 use Rattle.printer.specs.Numbers.{close-report, value}
 use Rattle.protocol.specs.declared.Answer.{Answer}
 use Rattle.protocol.specs.Answers.{refusal, report}
@@ -46,7 +47,7 @@ opening-words o =
 -- 18, 19, 11 to 15, then 21: a state of the wrong length is not written, and neither is anything else
 unfoldable pub open-call : ℕ → ℕ → List ℕ → List ℕ → List ℕ → List ℕ → List ℕ → List ℕ → Called
 open-call lines spacing font state page line staging store =
-    let o : Opening = opening lp2 lines spacing font (machine shut page line staging store) in
+    let o : Opening = opening Lp2 lines spacing font (machine (shut Lp2) page line staging store) in
     cond (eqb (length state) state-size) (opening-words o) (called (refused-or 21 (o .answer)) state page line staging store [])
 
 -- bytes taken, the note's number and place (0 where there is none), 0
@@ -68,7 +69,8 @@ feeding-words f state told =
 -- 10, also for what is no state; 11 to 15; then 22, which takes no byte and writes nothing; then bytes
 unfoldable pub feed-call : List ℕ → List ℕ → List ℕ → List ℕ → List ℕ → List ℕ → List ℕ → List ℕ → Called
 feed-call font piece state page line staging store told =
-    let f : Feeding = feeding lp2 font piece (machine (state-of state) page line staging store) in
+    let p : Printer = state-of state in
+    let f : Feeding = feeding (edition-of p) font piece (machine p page line staging store) in
     cond (is-state state)
     (cond (eqb (length told) report-size) (feeding-words f state told) (called (refused-or 22 (f .answer)) state page line staging store told))
     (called 10 state page line staging store told)
@@ -93,4 +95,6 @@ closing-words c told =
 
 -- 10 also for what is no state
 unfoldable pub close-call : List ℕ → List ℕ → Closed
-close-call state told = cond (is-state state) (closing-words (closing lp2 (state-of state)) told) (record { number = 10; report = told })
+close-call state told =
+    let p : Printer = state-of state in
+    cond (is-state state) (closing-words (closing (edition-of p) p) told) (record { number = 10; report = told })

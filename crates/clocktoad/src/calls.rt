@@ -4,8 +4,8 @@ ghost use mathlib.Core.Bool.{true};
 ghost use mathlib.Core.List.{List, [], _∷_};
 ghost use lib.ListN.{length};
 ghost use Prim.Native.Nat.{ℕ, _≤_};
-ghost use Rattle.sheet.specs.Edition.{lp2};
 ghost use Rattle.printer.specs.Given.{machine};
+ghost use Rattle.printer.specs.Machine.{edition-of};
 ghost use Rattle.protocol.specs.Calls.{feeding};
 ghost use Rattle.words.specs.Words.{is-state, state-size};
 ghost use Rattle.clocktoad.specs.Calls.{called, close-call, feed-call, open-call, refused-or, report-size};
@@ -23,6 +23,7 @@ use protocol::numbers::close_place;
 use protocol::numbers::noted_number;
 use protocol::numbers::noted_place;
 use protocol::numbers::refusal;
+use sheet::Model;
 use state::sound;
 use words::STATE_WORDS;
 use words::is_state;
@@ -71,9 +72,12 @@ pub extern "C" fn clocktoad_open(
     ensures { λ r. ⌜ (length (now (state .entry)) ≡ state-size → is-state (now (state .exit)) ≡ true) ⌝ }
 {
     if state.len() != STATE_WORDS {
-        return refused_or(21, admit(lines, spacing, page, line, staging, store, font));
+        return refused_or(
+            21,
+            admit(Model::Lp2, lines, spacing, page, line, staging, store, font),
+        );
     }
-    let opened = open(lines, spacing, page, line, staging, store, font);
+    let opened = open(Model::Lp2, lines, spacing, page, line, staging, store, font);
     let printer = opened.printer;
     let answer = opened.answer;
     put(state, printer);
@@ -89,14 +93,15 @@ fn unreported(
     store: &[u8],
     font: &[u8],
 ) -> u64
-    ensures { λ r. ⌜ ((piece : List ℕ) → r ≡ refused-or 22 (feeding lp2 (now (font .entry)) piece
+    ensures { λ r. ⌜ ((piece : List ℕ) → r ≡ refused-or 22 (feeding (edition-of p) (now (font .entry)) piece
         (machine p (now (page .entry)) (now (line .entry)) (now (staging .entry)) (now (store .entry))) .answer)) ⌝ }
 {
     if !sound(p) {
         return 10;
     }
+    let model = p.model;
     let form = p.form;
-    let fitting = fit(form, page, line, staging, store, font);
+    let fitting = fit(model, form, page, line, staging, store, font);
     match fitting {
         Fit::Wrong(lent) => answer_number(Answer::Misfit(lent)),
         Fit::Right => 22,

@@ -6,6 +6,7 @@ ghost use lib.ListN.{drop, length, set, take};
 ghost use Rattle.printer.specs.Bytes.{loaded, payload-byte};
 ghost use Rattle.printer.specs.Downloads.{download, out-of-range, replaced};
 ghost use Rattle.printer.specs.Given.{given, machine};
+ghost use Rattle.printer.specs.Machine.{store-size};
 use glyph::words::all_well_formed;
 use printer::Fault;
 use printer::Load;
@@ -59,15 +60,21 @@ fn replace(store: &mut [u8], staging: &[u8], at: usize, n: usize)
     copy(&mut store[at..], staging, n);
 }
 
+// The addresses of the download store: its first, and the one past its last.
+const FIRST_ADDRESS: usize = 2048;
+
+const PAST_ADDRESS: usize = 4096;
+
 // The payload is not whole glyphs within the download store, or there is none.
 fn out_of_range(count: u16, address: u16) -> bool
     ensures { λ r. ⌜ r ≡ out-of-range count address ⌝ }
 {
-    if address < 2048 {
+    let first = address as usize;
+    if first < FIRST_ADDRESS {
         return true;
     }
-    let end = (address as usize) + (count as usize);
-    if 4096 < end {
+    let end = first + (count as usize);
+    if PAST_ADDRESS < end {
         return true;
     }
     if count == 0 {
@@ -88,7 +95,7 @@ fn download(
     staging: &[u8],
     store: &mut [u8],
 ) -> Stepped
-    requires { ⌜ (length (now staging) ≡ 2048) × (length (now store) ≡ 2048) ⌝ }
+    requires { ⌜ (length (now staging) ≡ store-size) × (length (now store) ≡ store-size) ⌝ }
     ensures { λ r. ⌜ ((page line : List ℕ) → given r page line (now (staging .entry)) (now (store .exit))
         ≡ download (l .count) (l .address) (l .sum) checksum place (machine p page line (now (staging .entry)) (now (store .entry)))) ⌝ }
 {
@@ -102,7 +109,7 @@ fn download(
     if !all_well_formed(staging, n / 16) {
         return noted(p, Fault::IllFormed, place);
     }
-    let at = (l.address as usize) - 2048;
+    let at = (l.address as usize) - FIRST_ADDRESS;
     replace(store, staging, at, n);
     quiet(p)
 }
@@ -116,7 +123,7 @@ pub fn payload_byte(
     staging: &mut [u8],
     store: &mut [u8],
 ) -> Stepped
-    requires { ⌜ (length (now staging) ≡ 2048) × (length (now store) ≡ 2048) ⌝ }
+    requires { ⌜ (length (now staging) ≡ store-size) × (length (now store) ≡ store-size) ⌝ }
     ensures { λ r. ⌜ ((page line : List ℕ) → given r page line (now (staging .exit)) (now (store .exit))
         ≡ payload-byte l b place (machine p page line (now (staging .entry)) (now (store .entry)))) ⌝ }
 {

@@ -3,11 +3,10 @@ ghost use mathlib.Core.Path.{_≡_};
 ghost use mathlib.Core.List.{List};
 ghost use Prim.Native.Nat.{ℕ, _≤_};
 ghost use lib.ListN.{length};
-ghost use Rattle.sheet.specs.Edition.{lp2};
 ghost use Rattle.sheet.specs.Form.{has-line};
 ghost use Rattle.printer.specs.Escapes.{escape, in-turn, reset, select, tab, tab-here, tab-item};
 ghost use Rattle.printer.specs.Given.{bare, given, machine, over};
-ghost use Rattle.printer.specs.Machine.{Machine, with-printer};
+ghost use Rattle.printer.specs.Machine.{Machine, edition-of, store-size, with-printer};
 use printer::Fault;
 use printer::Printer;
 use printer::Stepped;
@@ -81,9 +80,9 @@ fn in_turn(p: Printer, after: Printer, place: u32) -> Stepped
 
 // ESC c and a byte.
 pub fn reset(p: Printer, b: u8, place: u32, line: &mut [u16], store: &mut [u8]) -> Stepped
-    requires { ⌜ (length (now line) ≡ 2200) × (length (now store) ≡ 2048) ⌝ }
+    requires { ⌜ (length (now line) ≡ edition-of p .columns) × (length (now store) ≡ store-size) ⌝ }
     ensures { λ r. ⌜ ((page staging : List ℕ) → given r page (now (line .exit)) staging (now (store .exit))
-        ≡ reset lp2 b place (machine p page (now (line .entry)) staging (now (store .entry)))) ⌝ }
+        ≡ reset (edition-of p) b place (machine p page (now (line .entry)) staging (now (store .entry)))) ⌝ }
 {
     if b != 0 {
         return noted(p, Fault::WrongBytes, place);

@@ -6,6 +6,8 @@ use crate::table::LIMIT;
 use crate::table::OPEN;
 use crate::table::SOUND;
 use crate::table::UNSOUND;
+use printer::STORE_BYTES;
+use sheet::sizes::LP2_LINE_NUMBERS;
 use words::STATE_WORDS;
 
 // How much of each part of the memory is lent.
@@ -54,10 +56,10 @@ pub fn new_case(kind: u64) -> Case {
     state[5] = 1;
     let lent = Sizes {
         page: 7425,
-        line: 2200,
-        staging: 2048,
-        store: 2048,
-        font: 2048,
+        line: LP2_LINE_NUMBERS,
+        staging: STORE_BYTES,
+        store: STORE_BYTES,
+        font: STORE_BYTES,
     };
     Case {
         kind,

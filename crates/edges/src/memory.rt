@@ -15,6 +15,7 @@ use protocol::numbers::answer_number;
 use protocol::numbers::noted_number;
 use protocol::numbers::noted_place;
 use sheet::Form;
+use sheet::Model;
 use words::STATE_WORDS;
 use words::is_state;
 use words::put;
@@ -120,10 +121,11 @@ fn held(state: &[u64; STATE_WORDS]) -> Printer {
     if is_state(state) {
         return state_of(state);
     }
-    new_printer(Form {
+    let form = Form {
         lines: 0,
         spacing: 0,
-    })
+    };
+    new_printer(Model::Lp2, form)
 }
 
 // Opens the state's form, or offers the rest of a piece to the state, which is left as the call gives it back; the count is of the rest's bytes alone.
@@ -141,7 +143,16 @@ fn call(
     let p = held(state);
     if kind == OPEN {
         let form = p.form;
-        let o = open(form.lines, form.spacing, page, line, staging, store, font);
+        let o = open(
+            Model::Lp2,
+            form.lines,
+            form.spacing,
+            page,
+            line,
+            staging,
+            store,
+            font,
+        );
         let printer = o.printer;
         let answer = o.answer;
         put(state, printer);

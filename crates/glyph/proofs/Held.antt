@@ -1,4 +1,4 @@
--- Entering keeps every column of the line store a sixteen-bit number.
+-- Entering keeps every number of the line store within sixteen bits.
 use Prim.Native.Nat.{ℕ, zero, suc, _+_, _*_, _/_, _<_}
 use mathlib.Core.Bool.{Bool, true, false, cond}
 use mathlib.Core.List.{List}
@@ -26,27 +26,28 @@ column-below : (glyphs : List ℕ) (n k : ℕ) → column glyphs n k < 65536
 unfolding column
 column-below glyphs n k = omega arith
 
-module _ (glyphs : List ℕ) (n at : ℕ) (line : List ℕ) (h : AllBelow 65536 line) where
-  narrow-below : (k : ℕ) → AllBelow 65536 (enter-narrow k glyphs n at line)
+module _ (glyphs : List ℕ) (n at stride : ℕ) (line : List ℕ) (h : AllBelow 65536 line) where
+  narrow-below : (k : ℕ) → AllBelow 65536 (enter-narrow k glyphs n at stride line)
   unfolding enter-narrow
   narrow-below zero = h
-  narrow-below (suc k) = or-in-below (at + k) _ _ (column-below glyphs n k) (narrow-below k)
+  narrow-below (suc k) = or-in-below (at + stride * k) _ _ (column-below glyphs n k) (narrow-below k)
 
-  wide-below : (k : ℕ) → AllBelow 65536 (enter-wide k glyphs n at line)
+  wide-below : (k : ℕ) → AllBelow 65536 (enter-wide k glyphs n at stride line)
   unfolding enter-wide
   wide-below zero = h
   wide-below (suc k) =
-      or-in-below (at + (2 * k + 1)) _ _ (column-below glyphs n k) (or-in-below (at + 2 * k) _ _ (column-below glyphs n k) (wide-below k))
+      or-in-below (at + stride * (2 * k + 1)) _ _ (column-below glyphs n k)
+      (or-in-below (at + stride * (2 * k)) _ _ (column-below glyphs n k) (wide-below k))
 
-underscore-below : (k at : ℕ) (line : List ℕ) → AllBelow 65536 line → AllBelow 65536 (underscore k at line)
+underscore-below : (k at stride : ℕ) (line : List ℕ) → AllBelow 65536 line → AllBelow 65536 (underscore k at stride line)
 unfolding underscore
-underscore-below zero at line h = h
-underscore-below (suc k) at line h = or-in-below (at + 2 * k) 1 _ (omega arith) (underscore-below k at line h)
+underscore-below zero at stride line h = h
+underscore-below (suc k) at stride line h = or-in-below (at + stride * (2 * k)) 1 _ (omega arith) (underscore-below k at stride line h)
 
-pub enter-below : (glyphs : List ℕ) (n : ℕ) (elongated underscored : Bool) (at : ℕ) (line : List ℕ) → AllBelow 65536 line
-    → AllBelow 65536 (enter glyphs n elongated underscored at line)
+pub enter-below : (glyphs : List ℕ) (n : ℕ) (elongated underscored : Bool) (at stride : ℕ) (line : List ℕ) → AllBelow 65536 line
+    → AllBelow 65536 (enter glyphs n elongated underscored at stride line)
 unfolding enter enter-glyph
-enter-below glyphs n elongated underscored at line h =
-    let inked : List ℕ = enter-glyph glyphs n elongated at line in
-    let k : AllBelow 65536 inked = below-cond elongated _ _ (wide-below glyphs n at line h 7) (narrow-below glyphs n at line h 7) in
-    below-cond underscored _ _ (underscore-below (cell elongated / 2) at inked k) k
+enter-below glyphs n elongated underscored at stride line h =
+    let inked : List ℕ = enter-glyph glyphs n elongated at stride line in
+    let k : AllBelow 65536 inked = below-cond elongated _ _ (wide-below glyphs n at stride line h 7) (narrow-below glyphs n at stride line h 7) in
+    below-cond underscored _ _ (underscore-below (cell elongated / 2) at stride inked k) k

@@ -15,26 +15,26 @@ pub length-or-in : (at wires : ℕ) (line : List ℕ) → length (or-in at wires
 unfolding or-in
 length-or-in at wires line = length-set line at _
 
-module _ (glyphs : List ℕ) (n at : ℕ) (line : List ℕ) where
-  pub length-narrow : (k : ℕ) → length (enter-narrow k glyphs n at line) ≡ length line
+module _ (glyphs : List ℕ) (n at stride : ℕ) (line : List ℕ) where
+  pub length-narrow : (k : ℕ) → length (enter-narrow k glyphs n at stride line) ≡ length line
   unfolding enter-narrow
   length-narrow zero = refl
   length-narrow (suc k) = length-or-in _ _ _ ∙ length-narrow k
 
-  pub length-wide : (k : ℕ) → length (enter-wide k glyphs n at line) ≡ length line
+  pub length-wide : (k : ℕ) → length (enter-wide k glyphs n at stride line) ≡ length line
   unfolding enter-wide
   length-wide zero = refl
   length-wide (suc k) = length-or-in _ _ _ ∙ length-or-in _ _ _ ∙ length-wide k
 
-pub length-underscore : (k at : ℕ) (line : List ℕ) → length (underscore k at line) ≡ length line
+pub length-underscore : (k at stride : ℕ) (line : List ℕ) → length (underscore k at stride line) ≡ length line
 unfolding underscore
-length-underscore zero at line = refl
-length-underscore (suc k) at line = length-or-in _ _ _ ∙ length-underscore k at line
+length-underscore zero at stride line = refl
+length-underscore (suc k) at stride line = length-or-in _ _ _ ∙ length-underscore k at stride line
 
-pub length-enter : (glyphs : List ℕ) (n : ℕ) (elongated underscored : Bool) (at : ℕ) (line : List ℕ)
-    → length (enter glyphs n elongated underscored at line) ≡ length line
+pub length-enter : (glyphs : List ℕ) (n : ℕ) (elongated underscored : Bool) (at stride : ℕ) (line : List ℕ)
+    → length (enter glyphs n elongated underscored at stride line) ≡ length line
 unfolding enter enter-glyph
-length-enter glyphs n elongated underscored at line =
-    let inked : List ℕ = enter-glyph glyphs n elongated at line in
-    let h : length inked ≡ length line = length-cond elongated _ _ _ (length-wide glyphs n at line 7) (length-narrow glyphs n at line 7) in
-    length-cond underscored _ _ _ (length-underscore (cell elongated / 2) at inked ∙ h) h
+length-enter glyphs n elongated underscored at stride line =
+    let inked : List ℕ = enter-glyph glyphs n elongated at stride line in
+    let h : length inked ≡ length line = length-cond elongated _ _ _ (length-wide glyphs n at stride line 7) (length-narrow glyphs n at stride line 7) in
+    length-cond underscored _ _ _ (length-underscore (cell elongated / 2) at stride inked ∙ h) h

@@ -13,7 +13,7 @@ pub fn cell(elongated: bool) -> usize
     if elongated { 20 } else { 10 }
 }
 
-// Sets wires in one column of the line store; those set already stay set.
+// Sets wires at one position of the line store; those set already stay set.
 pub fn or_in(line: &mut [u16], at: usize, wires: u16)
     requires { ⌜ at < length (now line) ⌝ }
     ensures { λ _. ⌜ now (line .exit) ≡ or-in at wires (now (line .entry)) ⌝ }
@@ -22,68 +22,74 @@ pub fn or_in(line: &mut [u16], at: usize, wires: u16)
 }
 
 // Enters the seven columns of glyph n, each once.
-fn enter_narrow(line: &mut [u16], glyphs: &[u8], n: usize, at: usize)
-    requires { ⌜ (at + 7 ≤ length (now line)) × (16 * n + 16 ≤ length (now glyphs)) ⌝ }
-    ensures { λ _. ⌜ now (line .exit) ≡ enter-narrow 7 (now (glyphs .entry)) n at (now (line .entry)) ⌝ }
+fn enter_narrow(line: &mut [u16], glyphs: &[u8], n: usize, at: usize, stride: usize)
+    requires { ⌜ (1 ≤ stride) × (at + stride * 7 ≤ length (now line)) × (16 * n + 16 ≤ length (now glyphs)) ⌝ }
+    ensures { λ _. ⌜ now (line .exit) ≡ enter-narrow 7 (now (glyphs .entry)) n at stride (now (line .entry)) ⌝ }
 {
     let mut k = 0;
+    let mut to = at;
     while k < 7 {
-        or_in(line, at + k, column(glyphs, n, k));
+        or_in(line, to, column(glyphs, n, k));
+        to += stride;
         k += 1;
     }
 }
 
 // Enters the seven columns of glyph n elongated, each twice.
-fn enter_wide(line: &mut [u16], glyphs: &[u8], n: usize, at: usize)
-    requires { ⌜ (at + 14 ≤ length (now line)) × (16 * n + 16 ≤ length (now glyphs)) ⌝ }
-    ensures { λ _. ⌜ now (line .exit) ≡ enter-wide 7 (now (glyphs .entry)) n at (now (line .entry)) ⌝ }
+fn enter_wide(line: &mut [u16], glyphs: &[u8], n: usize, at: usize, stride: usize)
+    requires { ⌜ (1 ≤ stride) × (at + stride * 14 ≤ length (now line)) × (16 * n + 16 ≤ length (now glyphs)) ⌝ }
+    ensures { λ _. ⌜ now (line .exit) ≡ enter-wide 7 (now (glyphs .entry)) n at stride (now (line .entry)) ⌝ }
 {
     let mut k = 0;
+    let mut to = at;
     while k < 7 {
         let wires = column(glyphs, n, k);
-        or_in(line, at + 2 * k, wires);
-        or_in(line, at + (2 * k + 1), wires);
+        or_in(line, to, wires);
+        or_in(line, to + stride, wires);
+        to += 2 * stride;
         k += 1;
     }
 }
 
 // Sets wire 9 in every second column, k times.
-fn underscore(line: &mut [u16], k: usize, at: usize)
-    requires { ⌜ at + 2 * k ≤ length (now line) ⌝ }
-    ensures { λ _. ⌜ now (line .exit) ≡ underscore k at (now (line .entry)) ⌝ }
+fn underscore(line: &mut [u16], k: usize, at: usize, stride: usize)
+    requires { ⌜ (1 ≤ stride) × (stride ≤ 5) × (at + stride * (2 * k) ≤ length (now line)) ⌝ }
+    ensures { λ _. ⌜ now (line .exit) ≡ underscore k at stride (now (line .entry)) ⌝ }
 {
     let mut j = 0;
+    let mut to = at;
     while j < k {
-        or_in(line, at + 2 * j, 1);
+        or_in(line, to, 1);
+        to += 2 * stride;
         j += 1;
     }
 }
 
 // Enters glyph n, narrow or elongated.
-fn enter_glyph(line: &mut [u16], glyphs: &[u8], n: usize, elongated: bool, at: usize)
-    requires { ⌜ Room (now line) (now glyphs) n elongated at ⌝ }
-    ensures { λ _. ⌜ now (line .exit) ≡ enter-glyph (now (glyphs .entry)) n elongated at (now (line .entry)) ⌝ }
+fn enter_glyph(line: &mut [u16], glyphs: &[u8], n: usize, elongated: bool, at: usize, stride: usize)
+    requires { ⌜ Room (now line) (now glyphs) n elongated at stride ⌝ }
+    ensures { λ _. ⌜ now (line .exit) ≡ enter-glyph (now (glyphs .entry)) n elongated at stride (now (line .entry)) ⌝ }
 {
     if elongated {
-        enter_wide(line, glyphs, n, at);
+        enter_wide(line, glyphs, n, at, stride);
     } else {
-        enter_narrow(line, glyphs, n, at);
+        enter_narrow(line, glyphs, n, at, stride);
     }
 }
 
 // Underscores a whole cell. Each call has its own constant, so that the compiler unrolls the loop.
-fn underscore_cell(line: &mut [u16], elongated: bool, at: usize)
-    requires { ⌜ at + cell elongated ≤ length (now line) ⌝ }
-    ensures { λ _. ⌜ now (line .exit) ≡ underscore (cell elongated / 2) at (now (line .entry)) ⌝ }
+fn underscore_cell(line: &mut [u16], elongated: bool, at: usize, stride: usize)
+    requires { ⌜ (1 ≤ stride) × (stride ≤ 5) × (at + stride * cell elongated ≤ length (now line)) ⌝ }
+    ensures { λ _. ⌜ now (line .exit) ≡ underscore (cell elongated / 2) at stride (now (line .entry)) ⌝ }
 {
     if elongated {
-        underscore(line, 10, at);
+        underscore(line, 10, at, stride);
     } else {
-        underscore(line, 5, at);
+        underscore(line, 5, at, stride);
     }
 }
 
-// Enters a character: glyph n in the cell that begins at column `at`.
+// Enters a character: glyph n in the cell that begins at position `at`, where a column takes `stride` positions.
 pub fn enter(
     line: &mut [u16],
     glyphs: &[u8],
@@ -91,12 +97,13 @@ pub fn enter(
     elongated: bool,
     underscored: bool,
     at: usize,
+    stride: usize,
 )
-    requires { ⌜ Room (now line) (now glyphs) n elongated at ⌝ }
-    ensures { λ _. ⌜ now (line .exit) ≡ enter (now (glyphs .entry)) n elongated underscored at (now (line .entry)) ⌝ }
+    requires { ⌜ Room (now line) (now glyphs) n elongated at stride ⌝ }
+    ensures { λ _. ⌜ now (line .exit) ≡ enter (now (glyphs .entry)) n elongated underscored at stride (now (line .entry)) ⌝ }
 {
-    enter_glyph(line, glyphs, n, elongated, at);
+    enter_glyph(line, glyphs, n, elongated, at, stride);
     if underscored {
-        underscore_cell(line, elongated, at);
+        underscore_cell(line, elongated, at, stride);
     }
 }

@@ -2,12 +2,11 @@
 ghost use mathlib.Core.Path.{_≡_};
 ghost use lib.ListN.{drop, length};
 ghost use Rattle.sheet.specs.declared.Form.{Form};
-ghost use Rattle.sheet.specs.Edition.{lp2};
-ghost use Rattle.sheet.specs.Form.{blank-page, empty-line};
+ghost use Rattle.sheet.specs.Edition.{described};
 ghost use Rattle.printer.specs.declared.Printer.{Printer};
 ghost use Rattle.printer.specs.Closing.{closing};
 ghost use Rattle.printer.specs.Given.{machine};
-ghost use Rattle.printer.specs.Machine.{empty-store, new-printer};
+ghost use Rattle.printer.specs.Machine.{edition-of, opened, store-size};
 ghost use Rattle.printer.specs.Room.{Ready, Sized};
 ghost use Rattle.protocol.specs.Calls.{feeding, opening, take-bytes};
 ghost use Rattle.protocol.specs.Given.{given-feeding, given-opening, more};
@@ -20,6 +19,7 @@ use answers::is_quiet;
 use answers::new_printer;
 use answers::unopened;
 use printer::Closing;
+use printer::JOB_LIMIT;
 use printer::Printer;
 use protocol::Answer;
 use protocol::Fed;
@@ -29,6 +29,7 @@ use protocol::numbers::refusal;
 use reader::step;
 use runs::run;
 use sheet::Form;
+use sheet::Model;
 use sheet::clearing::blank;
 use sheet::clearing::empty;
 use state::closing;
@@ -36,28 +37,30 @@ use state::sound;
 
 // Zeroes the page and the stores, and starts a job of a form.
 fn start(
+    model: Model,
     form: Form,
     page: &mut [u8],
     line: &mut [u16],
     staging: &mut [u8],
     store: &mut [u8],
 ) -> Opened
-    requires { ⌜ Sized lp2 form (now page) (now line) (now staging) (now store) ⌝ }
+    requires { ⌜ Sized (described model) form (now page) (now line) (now staging) (now store) ⌝ }
     ensures { λ r. ⌜ given-opening r (now (page .exit)) (now (line .exit)) (now (staging .exit)) (now (store .exit))
-        ≡ record { answer = Answer.Done; machine = machine (new-printer form) (blank-page lp2 form) (empty-line lp2) empty-store empty-store } ⌝ }
+        ≡ record { answer = Answer.Done; machine = opened model form } ⌝ }
 {
     blank(page);
     empty(line);
     blank(staging);
     blank(store);
     Opened {
-        printer: new_printer(form),
+        printer: new_printer(model, form),
         answer: Answer::Done,
     }
 }
 
 // Opens a job.
 pub fn open(
+    model: Model,
     lines: usize,
     spacing: usize,
     page: &mut [u8],
@@ -67,15 +70,15 @@ pub fn open(
     font: &[u8],
 ) -> Opened
     ensures { λ r. ⌜ ((p : Printer) → given-opening r (now (page .exit)) (now (line .exit)) (now (staging .exit)) (now (store .exit))
-        ≡ opening lp2 lines spacing (now (font .entry))
+        ≡ opening model lines spacing (now (font .entry))
         (machine p (now (page .entry)) (now (line .entry)) (now (staging .entry)) (now (store .entry)))) ⌝ }
 {
-    let answer = admit(lines, spacing, page, line, staging, store, font);
+    let answer = admit(model, lines, spacing, page, line, staging, store, font);
     if refusal(answer) {
-        return unopened(answer);
+        return unopened(model, answer);
     }
     let form = Form { lines, spacing };
-    start(form, page, line, staging, store)
+    start(model, form, page, line, staging, store)
 }
 
 // Takes the bytes of a piece, up to one that has something to tell, or to the job's limit: runs of like bytes at one go, every other byte by a step.
@@ -88,9 +91,9 @@ fn take_bytes(
     store: &mut [u8],
     font: &[u8],
 ) -> Fed
-    requires { ⌜ Ready lp2 (machine p (now page) (now line) (now staging) (now store)) × (length (now font) ≡ 2048) ⌝ }
+    requires { ⌜ Ready (edition-of p) (machine p (now page) (now line) (now staging) (now store)) × (length (now font) ≡ store-size) ⌝ }
     ensures { λ r. ⌜ given-feeding r (now (page .exit)) (now (line .exit)) (now (staging .exit)) (now (store .exit))
-        ≡ take-bytes lp2 (now (font .entry)) (now (piece .entry))
+        ≡ take-bytes (edition-of p) (now (font .entry)) (now (piece .entry))
         (machine p (now (page .entry)) (now (line .entry)) (now (staging .entry)) (now (store .entry))) ⌝ }
 {
     let mut q = p;
@@ -102,7 +105,7 @@ fn take_bytes(
         if at == piece.len() {
             return given(after, Answer::Done, at);
         }
-        if after.job == 4294967295 {
+        if after.job == JOB_LIMIT {
             return given(after, Answer::JobFull, at);
         }
         let s = step(after, piece[at], page, line, staging, store, font);
@@ -127,7 +130,7 @@ pub fn feed(
     font: &[u8],
 ) -> Fed
     ensures { λ r. ⌜ given-feeding r (now (page .exit)) (now (line .exit)) (now (staging .exit)) (now (store .exit))
-        ≡ feeding lp2 (now (font .entry)) (now (piece .entry))
+        ≡ feeding (edition-of p) (now (font .entry)) (now (piece .entry))
         (machine p (now (page .entry)) (now (line .entry)) (now (staging .entry)) (now (store .entry))) ⌝ }
 {
     if !sound(p) {
@@ -137,8 +140,9 @@ pub fn feed(
             taken: 0,
         };
     }
+    let model = p.model;
     let form = p.form;
-    let fitting = fit(form, page, line, staging, store, font);
+    let fitting = fit(model, form, page, line, staging, store, font);
     match fitting {
         Fit::Wrong(lent) => Fed {
             printer: p,
@@ -161,7 +165,7 @@ pub fn offer(
     font: &[u8],
 ) -> Fed
     ensures { λ r. ⌜ given-feeding r (now (page .exit)) (now (line .exit)) (now (staging .exit)) (now (store .exit))
-        ≡ more taken (feeding lp2 (now (font .entry)) (drop taken (now (piece .entry)))
+        ≡ more taken (feeding (edition-of p) (now (font .entry)) (drop taken (now (piece .entry)))
         (machine p (now (page .entry)) (now (line .entry)) (now (staging .entry)) (now (store .entry)))) ⌝ }
 {
     if taken < piece.len() {
@@ -174,7 +178,7 @@ pub fn offer(
 
 // Closes a job.
 pub fn close(p: Printer) -> Closing
-    ensures { λ r. ⌜ r ≡ closing lp2 p ⌝ }
+    ensures { λ r. ⌜ r ≡ closing (edition-of p) p ⌝ }
 {
     closing(p)
 }

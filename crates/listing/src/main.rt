@@ -5,6 +5,7 @@ use job::calls::open;
 use libc::STDIN_FILENO;
 use printer::Closing;
 use printer::Printer;
+use printer::STORE_BYTES;
 use protocol::Answer;
 use protocol::Fed;
 use report::say;
@@ -12,7 +13,9 @@ use report::say_note;
 use report::say_number;
 use report::unread;
 use report::unwritten;
+use sheet::Model;
 use sheet::clearing::blank;
+use sheet::sizes::LP2_LINE_NUMBERS;
 
 // How a listing goes on.
 enum Next {
@@ -206,7 +209,7 @@ fn finish(l: Listing) {
 
 // Opens a job of 5 lines at 6 an inch, and lists it.
 fn run(page: &mut [u8], line: &mut [u16], staging: &mut [u8], store: &mut [u8], font: &[u8]) {
-    let opened = open(5, 6, page, line, staging, store, font);
+    let opened = open(Model::Lp2, 5, 6, page, line, staging, store, font);
     let printer = opened.printer;
     let start = Listing {
         printer,
@@ -220,19 +223,19 @@ fn run(page: &mut [u8], line: &mut [u16], staging: &mut [u8], store: &mut [u8], 
 // Lends the memory on.
 fn lend(
     page: &mut [u8; 49500],
-    line: &mut [u16; 2200],
-    staging: &mut [u8; 2048],
-    store: &mut [u8; 2048],
-    font: &[u8; 2048],
+    line: &mut [u16; LP2_LINE_NUMBERS],
+    staging: &mut [u8; STORE_BYTES],
+    store: &mut [u8; STORE_BYTES],
+    font: &[u8; STORE_BYTES],
 ) {
     run(page, line, staging, store, font);
 }
 
 fn main() {
     let mut page = [0u8; 49500];
-    let mut line = [0u16; 2200];
-    let mut staging = [0u8; 2048];
-    let mut store = [0u8; 2048];
-    let font = [0u8; 2048];
+    let mut line = [0u16; LP2_LINE_NUMBERS];
+    let mut staging = [0u8; STORE_BYTES];
+    let mut store = [0u8; STORE_BYTES];
+    let font = [0u8; STORE_BYTES];
     lend(&mut page, &mut line, &mut staging, &mut store, &font);
 }

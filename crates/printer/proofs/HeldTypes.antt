@@ -15,10 +15,13 @@ use denote.RattleType.{RattleType}
 use denote.Shadow.{shadow}
 use denote.Slice.{Room}
 use Rattle.sheet.specs.declared.Form.{Form}
+use Rattle.sheet.specs.declared.Model.{Model}
+use Rattle.sheet.specs.declared.Model.the-variants.{Lp2, Dg6215}
 use Rattle.sheet.specs.declared.Pitch.{Pitch}
 use Rattle.sheet.specs.declared.Pitch.the-variants.{Normal, Compressed}
 use Rattle.sheet.specs.Held.{AllBelow, HeldBytes, HeldColumns}
 use Rattle.sheet.proofs.Form as form
+use Rattle.sheet.proofs.Model as model
 use Rattle.sheet.proofs.Pitch as pitch
 use Rattle.printer.specs.declared.Head.{Head}
 use Rattle.printer.specs.declared.Load.{Load}
@@ -87,6 +90,10 @@ head-typed h r c = (_, (_, (refl, ((_, (refl, ((refl, r), tt))), ((refl, c), (re
 head-held : (h : Head) → Typed head.the-row h → (h .row .0 < 2 ^ 64) × (h .column < 2 ^ 64)
 head-held h (vs, (vss, (row, ((ws, (one, ((r, counted), last))), ((c, column), flags))))) = (counted, column)
 
+model-typed : (w : Model) → Typed model.the-row w
+model-typed Lp2 = (_, (_, (refl, (_, (refl, tt)))))
+model-typed Dg6215 = (_, (_, (refl, (_, (refl, tt)))))
+
 pitch-typed : (p : Pitch) → Typed pitch.the-row p
 pitch-typed Normal = (_, (_, (refl, (_, (refl, tt)))))
 pitch-typed Compressed = (_, (_, (refl, (_, (refl, tt)))))
@@ -107,10 +114,10 @@ state-typed p h =
     let at : Typed head.the-row (p .head) = head-typed (p .head) (h .row) (h .column) in
     let s : Typed style.the-row (p .style) = style-typed (p .style) in
     let t : Typed tabs.the-row (p .tabs) = tabs-typed (p .tabs) (h .tabs) in
-    (_, (_, (refl, (f .1, ((refl, h .job), (q .1, (at .1, (s .1, (t .1, tt)))))))))
+    (_, (_, (refl, (model-typed (p .model) .1, (f .1, ((refl, h .job), (q .1, (at .1, (s .1, (t .1, tt))))))))))
 
 state-held : (p : Printer) → Typed printer.the-row p → HeldState p
-state-held p (vs, (vss, (row, (in-form, ((j, job), (in-pending, (in-head, (in-style, (in-tabs, end))))))))) =
+state-held p (vs, (vss, (row, (in-model, (in-form, ((j, job), (in-pending, (in-head, (in-style, (in-tabs, end)))))))))) =
     let f = form-held (p .form) (_, in-form) in
     let h = head-held (p .head) (_, in-head) in
     record {

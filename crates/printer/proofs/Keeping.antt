@@ -1,4 +1,4 @@
--- What the rules leave alone: no command touches the form, the count of the job or what is pending, and no byte touches the form.
+-- What the rules leave alone: no command touches the model, the form, the count of the job or what is pending, and no byte touches the model or the form.
 use Prim.Native.Nat.{ℕ, _+_}
 use mathlib.Core.Bool.{Bool, true, false, cond}
 use mathlib.Core.List.{List, [], _∷_}
@@ -6,6 +6,7 @@ use mathlib.Core.Path.{_≡_, refl, ap, _∙_}
 use native.Mathlib.Omega.{arith}
 use lib.ListN.{length}
 use Rattle.sheet.specs.declared.Form.{Form}
+use Rattle.sheet.specs.declared.Model.{Model}
 use Rattle.sheet.specs.Edition.{Edition}
 use Rattle.printer.specs.declared.Event.{Event}
 use Rattle.printer.specs.declared.Event.the-variants.{Quiet, Finished, Noted}
@@ -28,12 +29,13 @@ use Rattle.printer.specs.Terminators.{carriage-return, form-feed, newlin
 
 -- what no command touches
 pub record Kept : Type 0 where
+  pub model : Model
   pub form : Form
   pub job : ℕ
   pub pending : Pending
 
 abbrev pub kept : Machine → Kept
-kept m = record { form = m .printer .form; job = m .printer .job; pending = m .printer .pending }
+kept m = record { model = m .printer .model; form = m .printer .form; job = m .printer .job; pending = m .printer .pending }
 
 abbrev pub Keeps : Kept → Step → Type 0
 Keeps k s = kept (s .machine) ≡ k
@@ -79,36 +81,42 @@ module _ (e : Edition) {k : Kept} where
   obey-keeps font (selecting high low) place m h = search (tell-step-keeps, keeps-cond) depth 20
   obey-keeps font (loading count address payload checksum) place m h = search (tell-step-keeps, keeps-cond) depth 20
 
--- the form and the count of the job that a step leaves
-abbrev Counts : Form → ℕ → Step → Type 0
-Counts f j s = (s .machine .printer .form ≡ f) × (s .machine .printer .job ≡ j)
+-- a state has this model, this form and so many bytes of the job
+pub record Counts (w : Model) (f : Form) (j : ℕ) (p : Printer) : Type 0 where
+  pub model : p .model ≡ w
+  pub form : p .form ≡ f
+  pub job : p .job ≡ j
 
-counts-cond : {f : Form} {j : ℕ} (t : Bool) (s u : Step) → Counts f j s → Counts f j u → Counts f j (cond t s u)
+counts-cond : {w : Model} {f : Form} {j : ℕ} (t : Bool) (s u : Step) → Counts w f j (s .machine .printer) → Counts w f j (u .machine .printer)
+    → Counts w f j (cond t s u .machine .printer)
 counts-cond true s u h h′ = h
 counts-cond false s u h h′ = h′
 
-tab-to-counts : (e : Edition) (below lowest : NextTab) (m : Machine) → Counts (m .printer .form) (m .printer .job) (tab-to e below lowest m)
+tab-to-counts : (e : Edition) (below lowest : NextTab) (m : Machine)
+    → Counts (m .printer .model) (m .printer .form) (m .printer .job) (tab-to e below lowest m .machine .printer)
 tab-to-counts e below lowest m =
     let h : Keeps (kept m) (tab-to e below lowest m) = tab-to-keeps e below lowest m refl in
-    (ap (λ (k : Kept). k .form) h, ap (λ (k : Kept). k .job) h)
+    record { model = ap (λ (k : Kept). k .model) h; form = ap (λ (k : Kept). k .form) h; job = ap (λ (k : Kept). k .job) h }
 
-act-counts : (e : Edition) (font : List ℕ) (q : Pending) (b here : ℕ) (m : Machine) → Counts (m .printer .form) (m .printer .job) (act e font q b here m)
+act-counts : (e : Edition) (font : List ℕ) (q : Pending) (b here : ℕ) (m : Machine)
+    → Counts (m .printer .model) (m .printer .form) (m .printer .job) (act e font q b here m .machine .printer)
 unfolding act first-byte second-byte text-escape tab-byte payload-byte alone text-byte print newline vertical-tab form-feed carriage-return
     strike plot-byte plot escape in-turn tab-here tab plot-escape clear-tabs after-reset reset select download tab-item
 act-counts e font Nothing b here m = search (counts-cond, tab-to-counts) depth 20
 act-counts e font (Escape place) b here m = search counts-cond depth 20
 act-counts e font (Tabs place) b here m = search counts-cond depth 20
 act-counts e font (Reset place) b here m = search counts-cond depth 20
-act-counts e font (Select place) b here m = (refl, refl)
+act-counts e font (Select place) b here m = record { model = refl; form = refl; job = refl }
 act-counts e font (SelectLow place high) b here m = search counts-cond depth 20
-act-counts e font (CountHigh place) b here m = (refl, refl)
-act-counts e font (CountLow place high) b here m = (refl, refl)
-act-counts e font (AddressHigh place count) b here m = (refl, refl)
-act-counts e font (AddressLow place count high) b here m = (refl, refl)
+act-counts e font (CountHigh place) b here m = record { model = refl; form = refl; job = refl }
+act-counts e font (CountLow place high) b here m = record { model = refl; form = refl; job = refl }
+act-counts e font (AddressHigh place count) b here m = record { model = refl; form = refl; job = refl }
+act-counts e font (AddressLow place count high) b here m = record { model = refl; form = refl; job = refl }
 act-counts e font (Payload place load) b here m = search counts-cond depth 20
 
--- a step keeps the form and counts its byte
-pub step-counts : (e : Edition) (font : List ℕ) (b : ℕ) (m : Machine) → Counts (m .printer .form) (m .printer .job + 1) (step e font b m)
+-- a step keeps the model and the form and counts its byte
+pub step-counts : (e : Edition) (font : List ℕ) (b : ℕ) (m : Machine)
+    → Counts (m .printer .model) (m .printer .form) (m .printer .job + 1) (step e font b m .machine .printer)
 unfolding step
 step-counts e font b m = act-counts e font (m .printer .pending) b (m .printer .job) (with-job (m .printer .job + 1) m)
 
@@ -118,16 +126,19 @@ tell-printer e Quiet m = refl
 tell-printer e Finished m = refl
 tell-printer e (Noted f place) m = refl
 
--- a run keeps the form and counts its bytes
+-- a run keeps the model and the form and counts its bytes
 pub run-counts : (e : Edition) (font bs : List ℕ) (m : Machine)
-    → (run e font bs m .machine .printer .form ≡ m .printer .form) × (run e font bs m .machine .printer .job ≡ m .printer .job + length bs)
+    → Counts (m .printer .model) (m .printer .form) (m .printer .job + length bs) (run e font bs m .machine .printer)
 unfolding run tell-step
-run-counts e font [] m = (refl, omega arith)
+run-counts e font [] m = record { model = refl; form = refl; job = omega arith }
 run-counts e font (b ∷ bs) m =
     let s : Step = step e font b m in
     let n : Machine = tell e (s .event) (s .machine) .machine in
-    let k : Counts (m .printer .form) (m .printer .job + 1) s = step-counts e font b m in
-    let p : n .printer ≡ s .machine .printer = tell-printer e (s .event) (s .machine) in (
-      run-counts e font bs n .0 ∙ ap (λ (q : Printer). q .form) p ∙ k .0,
-      omega (arith, run-counts e font bs n .1, ap (λ (q : Printer). q .job) p, k .1),
-    )
+    let p : n .printer ≡ s .machine .printer = tell-printer e (s .event) (s .machine) in
+    let k = step-counts e font b m in
+    let on = run-counts e font bs n in
+    record {
+      model = on .model ∙ ap (λ (q : Printer). q .model) p ∙ k .model;
+      form = on .form ∙ ap (λ (q : Printer). q .form) p ∙ k .form;
+      job = omega (arith, on .job, ap (λ (q : Printer). q .job) p, k .job);
+    }

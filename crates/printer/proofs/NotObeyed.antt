@@ -66,7 +66,7 @@ step-passes e font b m = act-passes e font b m (m .printer .pending)
 
 untouched : (f : Fault) (m : Machine) → Untouched m (passed-over f m)
 unfolding passed-over
-untouched f m = record { page = refl; line = refl; staging = refl; store = refl; form = refl; head = refl; style = refl; tabs = refl }
+untouched f m = record { page = refl; line = refl; staging = refl; store = refl; model = refl; form = refl; head = refl; style = refl; tabs = refl }
 
 -- A byte that gives a note.
 module _ (e : Edition) (font : List ℕ) (b : ℕ) (m : Machine) {f : Fault} {place : ℕ} (noted : step e font b m .event ≡ Noted f place) where

@@ -5,7 +5,7 @@ use mathlib.Core.List.{List}
 use mathlib.Core.Path.{_≡_, ap, refl}
 use lib.ListN.{length, length-replicate, replicate}
 use Rattle.sheet.specs.Edition.{Edition}
-use Rattle.printer.specs.Machine.{empty-store}
+use Rattle.printer.specs.Machine.{empty-store, store-size}
 use Rattle.printer.specs.Room.{Ready}
 use Rattle.printer.specs.Steps.{Step}
 
@@ -21,10 +21,10 @@ module _ {e : Edition} where
   ready-cond false s u h k = k
 
 -- a store of its length that is all 0 is an empty one
-pub store-emptied : (store : List ℕ) → length store ≡ 2048 → replicate (length store) 0 ≡ empty-store
+pub store-emptied : (store : List ℕ) → length store ≡ store-size → replicate (length store) 0 ≡ empty-store
 unfolding empty-store
 store-emptied store q = ap (λ (n : ℕ). replicate n 0) q
 
-pub length-empty-store : length empty-store ≡ 2048
+pub length-empty-store : length empty-store ≡ store-size
 unfolding empty-store
 length-empty-store = length-replicate {A = ℕ} 2048 0

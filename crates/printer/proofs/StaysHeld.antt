@@ -10,7 +10,8 @@ use lib.ListN.{drop, length, set, take}
 use Rattle.sheet.specs.declared.Form.{Form}
 use Rattle.sheet.specs.declared.Line.{Line}
 use Rattle.sheet.specs.declared.Row.{Row}
-use Rattle.sheet.specs.Edition.{Edition}
+use Rattle.sheet.specs.declared.Model.{Model}
+use Rattle.sheet.specs.Edition.{Edition, described}
 use Rattle.sheet.specs.Form.{blank-page, empty-line, page-bytes}
 use Rattle.sheet.specs.Held.{AllBelow, HeldSlice}
 use Rattle.sheet.proofs.Editions.{Countable}
@@ -30,7 +31,7 @@ use Rattle.printer.specs.Bytes.{act, ended, first-byte, loaded, payload-
 use Rattle.printer.specs.Downloads.{download, replaced}
 use Rattle.printer.specs.Escapes.{after-reset, clear-tabs, escape, in-turn, reset, select, tab, tab-here, tab-item}
 use Rattle.printer.specs.Held.{Held, HeldLoad, HeldPending, HeldState, HeldStores, HeldTabs}
-use Rattle.printer.specs.Machine.{Machine, empty-store, new-printer, opened, with-job, with-page, with-pending, with-staging}
+use Rattle.printer.specs.Machine.{Machine, empty-store, limit, new-printer, opened, with-job, with-page, with-pending, with-staging}
 use Rattle.printer.specs.Plotting.{plot, plot-byte, plot-escape}
 use Rattle.printer.specs.Printing.{entered, print}
 use Rattle.printer.specs.Room.{Ready, Sized}
@@ -137,7 +138,7 @@ module _ (e : Edition) (m : Machine) (h : Writes m) where
 
   print-writes : (font : List ℕ) (b place : ℕ) → Writes (print e font b place m .machine)
   unfolding print entered
-  print-writes font b place = let line : AllBelow 65536 (entered font b m) = enter-below _ _ _ _ _ _ (h .line) in search writes-cond
+  print-writes font b place = let line : AllBelow 65536 (entered e font b m) = enter-below _ _ _ _ _ _ _ (h .line) in search writes-cond
 
   plot-writes : (v place : ℕ) → v < 65536 → Writes (plot e v place m .machine)
   unfolding plot
@@ -226,7 +227,7 @@ same-room size xs ys h q k = record { below = k; room = rw q (h .room) }
 
 module _ {e : Edition} {m : Machine} (ready : Ready e m) (h : Held m) where
   -- THE LAW: a byte below the job limit leaves a machine that memory can hold
-  pub step-held : Countable e → (font : List ℕ) (b : ℕ) → m .printer .job < 4294967295 → b < 256 → Held (step e font b m .machine)
+  pub step-held : Countable e → (font : List ℕ) (b : ℕ) → m .printer .job < limit → b < 256 → Held (step e font b m .machine)
   unfolding step
   step-held countable font b room byte =
       let s : Machine = step e font b m .machine in
@@ -234,13 +235,13 @@ module _ {e : Edition} {m : Machine} (ready : Ready e m) (h : Held m) where
       let counts = step-counts e font b m in
       let counted : Machine = with-job (m .printer .job + 1) m in
       let w : Writes s = act-writes e font b (m .printer .job) counted (h .printer .job) byte (m .printer .pending) (held-writes m h) in
-      let size : page-bytes e (s .printer .form) ≡ page-bytes e (m .printer .form) = ap (page-bytes e) (counts .0) in
+      let size : page-bytes e (s .printer .form) ≡ page-bytes e (m .printer .form) = ap (page-bytes e) (counts .form) in
       record {
         printer =
             record {
-              lines = rw (counts .0) (h .printer .lines);
-              spacing = rw (counts .0) (h .printer .spacing);
-              job = omega (arith, counts .1);
+              lines = rw (counts .form) (h .printer .lines);
+              spacing = rw (counts .form) (h .printer .spacing);
+              job = omega (arith, counts .job);
               pending = w .pending;
               row = omega (arith, after .printer .head .row, rows-counted countable (s .printer .form) (after .printer .form .most));
               column = omega (arith, after .printer .head .column, countable .columns (s .printer .style .pitch));
@@ -263,16 +264,17 @@ module _ {e : Edition} {m : Machine} (ready : Ready e m) (h : Held m) where
       search
 
 -- the state at the start of a job, of a form whose numbers are usizes
-pub new-held : (f : Form) → f .lines < 2 ^ 64 → f .spacing < 2 ^ 64 → HeldState (new-printer f)
-new-held f l k =
+pub new-held : (w : Model) (f : Form) → f .lines < 2 ^ 64 → f .spacing < 2 ^ 64 → HeldState (new-printer w f)
+new-held w f l k =
     record { lines = l; spacing = k; job = omega arith; pending = tt; row = omega arith; column = omega arith; tabs = no-tabs-held }
 
 -- a machine just opened, where the memory lent has the form's lengths
-pub opened-held : {e : Edition} (f : Form) → f .lines < 2 ^ 64 → f .spacing < 2 ^ 64 → {pg ln sg st : List ℕ} → HeldStores pg ln sg st
-    → Sized e f pg ln sg st → Held (opened e f)
-opened-held {e} f l k {pg} {ln} {sg} {st} h sized =
+pub opened-held : (w : Model) (f : Form) → f .lines < 2 ^ 64 → f .spacing < 2 ^ 64 → {pg ln sg st : List ℕ} → HeldStores pg ln sg st
+    → Sized (described w) f pg ln sg st → Held (opened w f)
+opened-held w f l k {pg} {ln} {sg} {st} h sized =
+    let e : Edition = described w in
     record {
-      printer = new-held f l k;
+      printer = new-held w f l k;
       memory =
           record {
             page = same-room 1 pg (blank-page e f) (h .page) (length-blank-page e f ∙ sym (sized .page)) (blank-page-below e f);

@@ -13,7 +13,8 @@ use Rattle.sheet.specs.declared.Line.{Line}
 use Rattle.sheet.specs.declared.Pitch.{Pitch}
 use Rattle.sheet.specs.declared.Row.{Row}
 use Rattle.sheet.specs.Dots.{struck}
-use Rattle.sheet.specs.Edition.{Edition}
+use Rattle.sheet.specs.declared.Model.{Model}
+use Rattle.sheet.specs.Edition.{Edition, described}
 use Rattle.sheet.specs.Form.{first-line, fits, has-line, form-rows, line, lines-above, lines-through, next-line, line-of, lines-allowed, page-bytes}
 use Rattle.sheet.specs.Form.{spacing-allowed, top}
 use Rattle.sheet.proofs.Struck.{length-struck}
@@ -36,7 +37,7 @@ use Rattle.printer.specs.Bytes.{act, ended, loaded, first-byte, payload-
 use Rattle.printer.specs.Downloads.{download, out-of-range, replaced}
 use Rattle.printer.specs.Escapes.{after-reset, clear-tabs, set-elongated, escape, set-downloaded, in-turn, set-pitch, begin-plot, reset, select}
 use Rattle.printer.specs.Escapes.{tab, tab-here, tab-item, set-underscore}
-use Rattle.printer.specs.Machine.{Machine, fresh-head, opened, with-job, with-pending, with-staging}
+use Rattle.printer.specs.Machine.{Machine, fresh-head, opened, store-size, with-job, with-pending, with-staging}
 use Rattle.printer.specs.Plotting.{plot, plot-byte, plot-escape, leave-plot}
 use Rattle.printer.specs.Printing.{entered, moved-to, print}
 use Rattle.printer.specs.Sound.{begun, at-most-escape}
@@ -125,14 +126,14 @@ module _ {e : Edition} {m : Machine} (h : Ready e m) where
   print-ready : (font : List ℕ) (b place : ℕ) → Ready e (print e font b place m .machine)
   unfolding print entered
   print-ready font b place =
-      let l : length (entered font b m) ≡ e .columns = length-enter _ _ _ _ _ _ ∙ h .memory .line in
+      let l : length (entered e font b m) ≡ e .columns = length-enter _ _ _ _ _ _ _ ∙ h .memory .line in
       search (ready-test, moved-sound, leb-true) depth 10
 
   plot-ready : (v place : ℕ) → Ready e (plot e v place m .machine)
   unfolding plot
   plot-ready v place =
       let l : length (or-in (m .printer .head .column) v (m .line)) ≡ e .columns = length-or-in _ _ _ ∙ h .memory .line in
-      search (ready-test, moved-sound, lt-add-one, ltb-true) depth 10
+      search (ready-test, moved-sound, leb-true) depth 10
 
   in-turn-ready : (place : ℕ) (after : Machine) → (T (m .printer .head .fresh) → Ready e after) → Ready e (in-turn place m after .machine)
   unfolding in-turn
@@ -219,7 +220,7 @@ module _ {e : Edition} {m : Machine} (h : Ready e m) where
       (ready-test (out-of-range count address) _ _ (λ _. h)
       (λ q.
       let inside = in-range count address q in
-      let k : length (replaced (address - 2048) count (m .staging) (m .store)) ≡ 2048 =
+      let k : length (replaced (address - 2048) count (m .staging) (m .store)) ≡ store-size =
       simp (length-append, length-take, length-drop) (omega (arith, h .memory .staging, h .memory .store)) in
       search ready-cond))
 
@@ -240,7 +241,7 @@ module _ {e : Edition} {m : Machine} (h : Ready e m) where
       search
 
   staged-ready : (k b : ℕ) → Ready e (with-staging (set (m .staging) k b) m)
-  staged-ready k b = let l : length (set (m .staging) k b) ≡ 2048 = length-set (m .staging) k b ∙ h .memory .staging in search
+  staged-ready k b = let l : length (set (m .staging) k b) ≡ store-size = length-set (m .staging) k b ∙ h .memory .staging in search
 
 -- One byte, by what is pending, with the byte counted.
 module _ {e : Edition} {m : Machine} (h : Ready e m) where
@@ -314,9 +315,11 @@ tell-ready Finished h = search length-blank-page
 tell-ready (Noted f place) h = h
 
 -- a machine just opened
-pub opened-ready : (e : Edition) (f : Form) → lines-allowed e (f .lines) ≡ true → spacing-allowed (f .spacing) ≡ true → Ready e (opened e f)
+pub opened-ready : (w : Model) (f : Form) → lines-allowed (described w) (f .lines) ≡ true → spacing-allowed (f .spacing) ≡ true
+    → Ready (described w) (opened w f)
 unfolding lines-allowed fits
-opened-ready e f l s =
+opened-ready w f l s =
+    let e : Edition = described w in
     let a = and-eq-true-iff _ _ .0 l in
     let some : 1 ≤ f .lines = leb-true _ _ (a .0) in
     let row : 0 + 9 ≤ form-rows f = leb-true _ _ (top-fits f some) in

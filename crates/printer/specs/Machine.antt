@@ -4,9 +4,10 @@ use mathlib.Core.Bool.{true, false}
 use mathlib.Core.List.{List}
 use lib.ListN.{replicate}
 use Rattle.sheet.specs.declared.Form.{Form}
+use Rattle.sheet.specs.declared.Model.{Model}
 use Rattle.sheet.specs.declared.Pitch.the-variants.{Normal}
 use Rattle.sheet.specs.declared.Row.{Row}
-use Rattle.sheet.specs.Edition.{Edition}
+use Rattle.sheet.specs.Edition.{Edition, described}
 use Rattle.sheet.specs.Form.{blank-page, empty-line, top}
 use Rattle.printer.specs.declared.Head.{Head}
 use Rattle.printer.specs.declared.Pending.{Pending}
@@ -24,9 +25,17 @@ pub record Machine : Type 0 where
   pub staging : List ℕ
   pub store : List ℕ
 
--- 2,048 bytes of zero: a staging store or a download store that holds nothing
+-- the bytes of the staging store, of the download store and of the resident font
+abbrev pub store-size : ℕ
+store-size = 2048
+
+-- a staging store or a download store that holds nothing
 unfoldable pub empty-store : List ℕ
-empty-store = replicate 2048 0
+empty-store = replicate store-size 0
+
+-- the most bytes that a job may have
+abbrev pub limit : ℕ
+limit = 4294967295
 
 -- the head on a fresh line at a row
 abbrev pub fresh-head : Row → Head
@@ -37,16 +46,22 @@ abbrev pub plain-style : Style
 plain-style = record { pitch = Normal; elongated = false; underscore = false; downloaded = false }
 
 -- the state at the start of a job: row 0, column 0, normal pitch, all features off, no tabs
-abbrev pub new-printer : Form → Printer
-new-printer f = record { form = f; job = 0; pending = Nothing; head = fresh-head top; style = plain-style; tabs = no-tabs }
+abbrev pub new-printer : Model → Form → Printer
+new-printer w f = record { model = w; form = f; job = 0; pending = Nothing; head = fresh-head top; style = plain-style; tabs = no-tabs }
 
 -- the shut state, L = 0
-abbrev pub shut : Printer
-shut = new-printer (record { lines = 0; spacing = 0 })
+abbrev pub shut : Model → Printer
+shut w = new-printer w (record { lines = 0; spacing = 0 })
+
+-- the edition of a state
+abbrev pub edition-of : Printer → Edition
+edition-of p = described (p .model)
 
 -- a job just opened: the page and the stores are zeroed
-abbrev pub opened : Edition → Form → Machine
-opened e f = record { printer = new-printer f; page = blank-page e f; line = empty-line e; staging = empty-store; store = empty-store }
+abbrev pub opened : Model → Form → Machine
+opened w f =
+    let e : Edition = described w in
+    record { printer = new-printer w f; page = blank-page e f; line = empty-line e; staging = empty-store; store = empty-store }
 
 -- The machine with one part of it changed.
 abbrev pub with-printer : Printer → Machine → Machine
@@ -67,24 +82,24 @@ with-store store m = record { printer = m .printer; page = m .page; line = m .li
 abbrev pub with-job : ℕ → Machine → Machine
 with-job n m =
     let p : Printer = m .printer in
-    with-printer (record { form = p .form; job = n; pending = p .pending; head = p .head; style = p .style; tabs = p .tabs }) m
+    with-printer (record { model = p .model; form = p .form; job = n; pending = p .pending; head = p .head; style = p .style; tabs = p .tabs }) m
 
 abbrev pub with-pending : Pending → Machine → Machine
 with-pending q m =
     let p : Printer = m .printer in
-    with-printer (record { form = p .form; job = p .job; pending = q; head = p .head; style = p .style; tabs = p .tabs }) m
+    with-printer (record { model = p .model; form = p .form; job = p .job; pending = q; head = p .head; style = p .style; tabs = p .tabs }) m
 
 abbrev pub with-head : Head → Machine → Machine
 with-head h m =
     let p : Printer = m .printer in
-    with-printer (record { form = p .form; job = p .job; pending = p .pending; head = h; style = p .style; tabs = p .tabs }) m
+    with-printer (record { model = p .model; form = p .form; job = p .job; pending = p .pending; head = h; style = p .style; tabs = p .tabs }) m
 
 abbrev pub with-style : Style → Machine → Machine
 with-style s m =
     let p : Printer = m .printer in
-    with-printer (record { form = p .form; job = p .job; pending = p .pending; head = p .head; style = s; tabs = p .tabs }) m
+    with-printer (record { model = p .model; form = p .form; job = p .job; pending = p .pending; head = p .head; style = s; tabs = p .tabs }) m
 
 abbrev pub with-tabs : TabSet → Machine → Machine
 with-tabs t m =
     let p : Printer = m .printer in
-    with-printer (record { form = p .form; job = p .job; pending = p .pending; head = p .head; style = p .style; tabs = t }) m
+    with-printer (record { model = p .model; form = p .form; job = p .job; pending = p .pending; head = p .head; style = p .style; tabs = t }) m

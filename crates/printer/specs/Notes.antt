@@ -65,6 +65,7 @@ pub record Untouched (m after : Machine) : Type 0 where
   pub line : after .line ≡ m .line
   pub staging : after .staging ≡ m .staging
   pub store : after .store ≡ m .store
+  pub model : after .printer .model ≡ m .printer .model
   pub form : after .printer .form ≡ m .printer .form
   pub head : after .printer .head ≡ m .printer .head
   pub style : after .printer .style ≡ m .printer .style

@@ -1,21 +1,21 @@
 -- Plot mode. Document 01, "Plot mode".
-use Prim.Native.Nat.{ℕ, _+_}
+use Prim.Native.Nat.{ℕ}
 use mathlib.Core.Bool.{Bool, false, cond, not, _&&_}
-use lib.Dec.{eqb, ltb}
+use lib.Dec.{eqb, leb, ltb}
 use Rattle.sheet.specs.Edition.{Edition}
 use Rattle.glyph.specs.Entering.{or-in}
 use Rattle.printer.specs.declared.Fault.the-variants.{HighByte, LineFull, WrongBytes}
 use Rattle.printer.specs.declared.Head.{Head}
 use Rattle.printer.specs.Machine.{Machine, with-head, with-line}
-use Rattle.printer.specs.Printing.{moved-to}
+use Rattle.printer.specs.Printing.{moved-to, past}
 use Rattle.printer.specs.Steps.{Step, noted, quiet}
 
--- a column of that value, bits 0 to 6, the bottom seven wires; at position W: note 44, dropped. (A plot line is not fresh.)
+-- a column of that value, bits 0 to 6, the bottom seven wires; one that ends past W: note 44, dropped. (A plot line is not fresh.)
 unfoldable pub plot : Edition → ℕ → ℕ → Machine → Step
 plot e v place m =
-    let at : ℕ = m .printer .head .column in
-    cond (ltb at (e .width (m .printer .style .pitch)))
-    (quiet (with-line (or-in at v (m .line)) (with-head (moved-to (at + 1) (m .printer .head)) m)))
+    let next : ℕ = past e 1 (m .printer) in
+    cond (leb next (e .width (m .printer .style .pitch)))
+    (quiet (with-line (or-in (m .printer .head .column) v (m .line)) (with-head (moved-to next (m .printer .head)) m)))
     (noted LineFull place m)
 
 -- plot mode is left; the line stays a plot line

@@ -4,45 +4,45 @@ use mathlib.Core.List.{List}
 use mathlib.Core.Path.{_≡_}
 use lib.ListN.{length}
 use Rattle.sheet.specs.declared.Form.{Form}
-use Rattle.sheet.specs.Edition.{Edition, lp2}
+use Rattle.sheet.specs.Edition.{Edition}
 use Rattle.sheet.specs.Form.{form-rows, page-bytes}
 use Rattle.printer.specs.declared.NextTab.{NextTab}
 use Rattle.printer.specs.declared.NextTab.the-variants.{Tabbed, Untabbed}
 use Rattle.printer.specs.declared.Printer.{Printer}
 use Rattle.printer.specs.Facts.{Sound}
-use Rattle.printer.specs.Machine.{Machine}
+use Rattle.printer.specs.Machine.{Machine, store-size}
 
 -- to enter a character
-pub record Writable (p : Printer) (ln st font : List ℕ) : Type 0 where
-  pub column : p .head .column ≤ 2200
-  pub line : length ln ≡ 2200
-  pub store : length st ≡ 2048
-  pub resident : length font ≡ 2048
+pub record Writable (e : Edition) (p : Printer) (ln st font : List ℕ) : Type 0 where
+  pub column : p .head .column ≤ e .columns
+  pub line : length ln ≡ e .columns
+  pub store : length st ≡ store-size
+  pub resident : length font ≡ store-size
 
 -- to strike a line: its nine wires stay on the form
-pub record Strikable (p : Printer) (pg ln : List ℕ) : Type 0 where
-  pub lines : p .form .lines ≤ 99
+pub record Strikable (e : Edition) (p : Printer) (pg ln : List ℕ) : Type 0 where
+  pub lines : p .form .lines ≤ e .longest
   pub row : p .head .row .0 + 9 ≤ form-rows (p .form)
-  pub page : length pg ≡ page-bytes lp2 (p .form)
-  pub line : length ln ≡ 2200
+  pub page : length pg ≡ page-bytes e (p .form)
+  pub line : length ln ≡ e .columns
 
 -- to obey any byte
-pub record Room (p : Printer) (pg ln sg st font : List ℕ) : Type 0 where
-  pub lines : p .form .lines ≤ 99
+pub record Room (e : Edition) (p : Printer) (pg ln sg st font : List ℕ) : Type 0 where
+  pub lines : p .form .lines ≤ e .longest
   pub row : p .head .row .0 + 9 ≤ form-rows (p .form)
-  pub column : p .head .column ≤ 2200
-  pub page : length pg ≡ page-bytes lp2 (p .form)
-  pub line : length ln ≡ 2200
-  pub staging : length sg ≡ 2048
-  pub store : length st ≡ 2048
-  pub resident : length font ≡ 2048
+  pub column : p .head .column ≤ e .columns
+  pub page : length pg ≡ page-bytes e (p .form)
+  pub line : length ln ≡ e .columns
+  pub staging : length sg ≡ store-size
+  pub store : length st ≡ store-size
+  pub resident : length font ≡ store-size
 
 -- the lengths of what is lent for a form
 pub record Sized (e : Edition) (f : Form) (pg ln sg st : List ℕ) : Type 0 where
   pub page : length pg ≡ page-bytes e f
   pub line : length ln ≡ e .columns
-  pub staging : length sg ≡ 2048
-  pub store : length st ≡ 2048
+  pub staging : length sg ≡ store-size
+  pub store : length st ≡ store-size
 
 -- ready for a byte: the state is sound and the memory has its lengths
 pub record Ready (e : Edition) (m : Machine) : Type 0 where

@@ -1,8 +1,15 @@
 // The printer: its state, what it can't obey, and what comes of a byte.
 use sheet::Form;
 use sheet::Line;
+use sheet::Model;
 use sheet::Pitch;
 use sheet::Row;
+
+// The bytes of the staging store, of the download store and of the resident font.
+pub const STORE_BYTES: usize = 2048;
+
+// The most bytes that a job may have.
+pub const JOB_LIMIT: u32 = 4294967295;
 
 // Where the head stands, and what the line in progress is. `plotted`: a plot line; `plotting`: plot mode.
 pub struct Head {
@@ -52,6 +59,7 @@ pub struct TabSet {
 
 // The state. `job` counts the bytes of the job so far.
 pub struct Printer {
+    pub model: Model,
     pub form: Form,
     pub job: u32,
     pub pending: Pending,

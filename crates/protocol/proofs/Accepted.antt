@@ -7,9 +7,10 @@ use native.Mathlib.Omega.{arith}
 use borrow.Author.Tests.{eq-eqb, eqb-true}
 use lib.ListN.{length}
 use Rattle.sheet.specs.declared.Form.{Form}
-use Rattle.sheet.specs.Edition.{Edition}
+use Rattle.sheet.specs.declared.Model.{Model}
+use Rattle.sheet.specs.Edition.{Edition, described}
 use Rattle.sheet.specs.Form.{lines-allowed, spacing-allowed}
-use Rattle.printer.specs.Machine.{Machine, opened}
+use Rattle.printer.specs.Machine.{Machine, opened, store-size}
 use Rattle.printer.specs.Room.{Ready, Sized}
 use Rattle.printer.proofs.Soundness.{facts-sound}
 use Rattle.protocol.specs.declared.Answer.the-variants.{Done, WrongLines, WrongSpacing}
@@ -22,7 +23,7 @@ use Rattle.protocol.specs.Calls.{Feeding, Opening, feed-fitted, feeding,
 -- all that is lent has its length
 pub record Fitting (e : Edition) (f : Form) (fnt : List ℕ) (m : Machine) : Type 0 where
   pub memory : Sized e f (m .page) (m .line) (m .staging) (m .store)
-  pub font : length fnt ≡ 2048
+  pub font : length fnt ≡ store-size
 
 right-only : (lent : Lent) → Wrong lent ≡ Right → ⊥
 right-only lent q = let z : _≡_ {A = ℕ} 0 1 = cc in omega arith
@@ -54,40 +55,43 @@ module _ (e : Edition) (f : Form) (font : List ℕ) (m : Machine) where
       }
 
 -- feeding takes the bytes
-pub feeding-takes : {e : Edition} {m : Machine} → Ready e m → (font : List ℕ) → length font ≡ 2048 → (piece : List ℕ)
+pub feeding-takes : {e : Edition} {m : Machine} → Ready e m → (font : List ℕ) → length font ≡ store-size → (piece : List ℕ)
     → feeding e font piece m ≡ take-bytes e font piece m
 unfolding feeding feed-fitted
 feeding-takes {e} {m} h font l piece =
     rw (facts-sound e (m .printer) (h .printer), fitting-right e (m .printer .form) font m (record { memory = h .memory; font = l }))
 
-pub takes-fed : {e : Edition} {m : Machine} → Ready e m → (font : List ℕ) → length font ≡ 2048 → (piece : List ℕ) (f : Feeding)
+pub takes-fed : {e : Edition} {m : Machine} → Ready e m → (font : List ℕ) → length font ≡ store-size → (piece : List ℕ) (f : Feeding)
     → f ≡ take-bytes e font piece m → f ≡ feeding e font piece m
 takes-fed h font l piece f q = q ∙ sym (feeding-takes h font l piece)
 
 -- what an opening that is not refused gives
-pub record Accepted (e : Edition) (f : Form) (fnt : List ℕ) (o : Opening) : Type 0 where
-  pub lines : lines-allowed e (f .lines) ≡ true
+pub record Accepted (w : Model) (f : Form) (fnt : List ℕ) (o : Opening) : Type 0 where
+  pub lines : lines-allowed (described w) (f .lines) ≡ true
   pub spacing : spacing-allowed (f .spacing) ≡ true
-  pub font : length fnt ≡ 2048
-  pub machine : o .machine ≡ opened e f
+  pub font : length fnt ≡ store-size
+  pub machine : o .machine ≡ opened w f
 
-module _ (e : Edition) (lines spacing : ℕ) (font : List ℕ) (m : Machine) where
+module _ (w : Model) (lines spacing : ℕ) (font : List ℕ) (m : Machine) where
+  abbrev e : Edition
+  e = described w
+
   abbrev form : Form
   form = record { lines = lines; spacing = spacing }
 
   fitted : (t : Fit) → fit e form font m ≡ t → lines-allowed e lines ≡ true → spacing-allowed spacing ≡ true
-      → open-fitted e form t m .answer ≡ Done → Accepted e form font (open-fitted e form t m)
+      → open-fitted w form t m .answer ≡ Done → Accepted w form font (open-fitted w form t m)
   unfolding open-fitted
   fitted Right q l s d = record { lines = l; spacing = s; font = right-fitting e form font m refl q .font; machine = refl }
   fitted (Wrong lent) q l s d = let z : _≡_ {A = ℕ} 0 1 = cc in absurd (omega arith)
 
   tested : (a b : Bool) → lines-allowed e lines ≡ a → spacing-allowed spacing ≡ b
-      → cond a (cond b (open-fitted e form (fit e form font m) m) (unopened WrongSpacing m)) (unopened WrongLines m) .answer ≡ Done
-      → Accepted e form font (cond a (cond b (open-fitted e form (fit e form font m) m) (unopened WrongSpacing m)) (unopened WrongLines m))
+      → cond a (cond b (open-fitted w form (fit e form font m) m) (unopened w WrongSpacing m)) (unopened w WrongLines m) .answer ≡ Done
+      → Accepted w form font (cond a (cond b (open-fitted w form (fit e form font m) m) (unopened w WrongSpacing m)) (unopened w WrongLines m))
   tested true true l s d = fitted (fit e form font m) refl l s d
   tested true false l s d = let z : _≡_ {A = ℕ} 0 1 = cc in absurd (omega arith)
   tested false b l s d = let z : _≡_ {A = ℕ} 0 1 = cc in absurd (omega arith)
 
-  pub opening-accepted : opening e lines spacing font m .answer ≡ Done → Accepted e form font (opening e lines spacing font m)
+  pub opening-accepted : opening w lines spacing font m .answer ≡ Done → Accepted w form font (opening w lines spacing font m)
   unfolding opening
   opening-accepted d = tested (lines-allowed e lines) (spacing-allowed spacing) refl refl d

@@ -8,7 +8,8 @@ use borrow.Author.Tests.{lt-ltb}
 use lib.Dec.{ltb}
 use lib.ListN.{length}
 use Rattle.sheet.specs.declared.Form.{Form}
-use Rattle.sheet.specs.Edition.{Edition}
+use Rattle.sheet.specs.declared.Model.{Model}
+use Rattle.sheet.specs.Edition.{Edition, described}
 use Rattle.sheet.specs.Form.{lines-allowed, spacing-allowed}
 use Rattle.printer.specs.declared.Closing.{Closing}
 use Rattle.printer.specs.declared.Closing.the-variants as closing
@@ -16,7 +17,7 @@ use Rattle.printer.specs.declared.Event.{Event}
 use Rattle.printer.specs.declared.Event.the-variants as event
 use Rattle.printer.specs.Bytes.{step}
 use Rattle.printer.specs.Numbers.{Report, close-report, plain}
-use Rattle.printer.specs.Machine.{Machine, shut, with-printer}
+use Rattle.printer.specs.Machine.{Machine, limit, shut, with-printer}
 use Rattle.printer.specs.Sound.{form-sound, sound}
 use Rattle.printer.specs.Steps.{Step, tell, tell-step}
 use Rattle.printer.proofs.Keeping.{step-counts}
@@ -28,7 +29,7 @@ use Rattle.protocol.specs.declared.Lent.{Lent}
 use Rattle.protocol.specs.declared.Lent.the-variants.{Page, LineStore, Staging, DownloadStore, Font}
 use Rattle.protocol.specs.Answers.{lent-number, refusal, report}
 use Rattle.protocol.specs.Protocol.{used-up}
-use Rattle.protocol.specs.Calls.{Feeding, Opening, feed-fitted, feeding, fit, heard, limit, open-fitted, opening, stopped, take-bytes, unopened}
+use Rattle.protocol.specs.Calls.{Feeding, Opening, feed-fitted, feeding, fit, heard, open-fitted, opening, stopped, take-bytes, unopened}
 
 -- what does not fit has the numbers 11 to 15
 lent-numbers : (lent : Lent) → (11 ≤ lent-number lent) × (lent-number lent ≤ 15)
@@ -51,8 +52,10 @@ numbered-0 (Misfit lent) q = absurd (let n = ap (λ (r : Report). r .number) q i
 numbered-0 WrongLines q = absurd (let n = ap (λ (r : Report). r .number) q in omega arith)
 numbered-0 WrongSpacing q = absurd (let n = ap (λ (r : Report). r .number) q in omega arith)
 
--- A call that takes bytes of a piece of n is no refusal, counts the bytes that it takes, takes no more than there are, and all where it answers 0.
+-- A call that takes bytes of a piece of n is no refusal, keeps the model, counts the bytes that it takes, takes no more than there are, and all where
+-- it answers 0.
 record Taking (n : ℕ) (m : Machine) (f : Feeding) : Type 0 where
+  model : f .machine .printer .model ≡ m .printer .model
   allowed : refusal (f .answer) ≡ false
   counted : f .machine .printer .job ≡ m .printer .job + f .taken
   within : f .taken ≤ n
@@ -64,16 +67,23 @@ not-done a d q = true≢false (sym (ap used-up d) ∙ q)
 
 module _ (e : Edition) (font : List ℕ) where
   stopped-taking : (n : ℕ) (a : Answer) (m : Machine) → refusal a ≡ false → (a ≡ Done → 0 ≡ n) → Taking n m (stopped a m)
-  stopped-taking n a m q all = record { allowed = q; counted = omega arith; within = omega arith; all = all }
+  stopped-taking n a m q all = record { model = refl; allowed = q; counted = omega arith; within = omega arith; all = all }
 
-  heard-taking : (n : ℕ) (v : Event) (m x : Machine) (f : Feeding) → x .printer .job ≡ m .printer .job + 1 → Taking n x f
-      → Taking (suc n) m (heard v x f)
+  heard-taking : (n : ℕ) (v : Event) (m x : Machine) (f : Feeding) → x .printer .model ≡ m .printer .model
+      → x .printer .job ≡ m .printer .job + 1 → Taking n x f → Taking (suc n) m (heard v x f)
   unfolding heard refusal
-  heard-taking n event.Quiet m x f q k =
-      record { allowed = k .allowed; counted = omega (arith, k .counted); within = omega (arith, k .within); all = λ d. ap suc (k .all d) }
-  heard-taking n event.Finished m x f q k = record { allowed = refl; counted = q; within = omega arith; all = λ d. absurd (not-done Finished d refl) }
-  heard-taking n (event.Noted g place) m x f q k =
-      record { allowed = refl; counted = q; within = omega arith; all = λ d. absurd (not-done (Noted g place) d refl) }
+  heard-taking n event.Quiet m x f w q k =
+      record {
+        model = k .model ∙ w;
+        allowed = k .allowed;
+        counted = omega (arith, k .counted);
+        within = omega (arith, k .within);
+        all = λ d. ap suc (k .all d);
+      }
+  heard-taking n event.Finished m x f w q k =
+      record { model = w; allowed = refl; counted = q; within = omega arith; all = λ d. absurd (not-done Finished d refl) }
+  heard-taking n (event.Noted g place) m x f w q k =
+      record { model = w; allowed = refl; counted = q; within = omega arith; all = λ d. absurd (not-done (Noted g place) d refl) }
 
   taking-if : (n : ℕ) (m : Machine) (f : Feeding) (t : Bool) → Taking n m f → Taking n m (cond t f (stopped JobFull m))
   unfolding refusal
@@ -86,7 +96,7 @@ module _ (e : Edition) (font : List ℕ) where
   taking (b ∷ bs) m =
       let s : Step = step e font b m in
       taking-if (suc (length bs)) m _ (ltb (m .printer .job) limit)
-      (heard-taking (length bs) (s .event) m (s .machine) _ (step-counts e font b m .1) (taking bs (s .machine)))
+      (heard-taking (length bs) (s .event) m (s .machine) _ (step-counts e font b m .model) (step-counts e font b m .job) (taking bs (s .machine)))
 
   -- bytes that are taken are not refused
   pub taking-heeds : (bs : List ℕ) (m : Machine) → refusal (take-bytes e font bs m .answer) ≡ false
@@ -133,6 +143,14 @@ module _ (e : Edition) (font piece : List ℕ) (m : Machine) where
   pub feeding-refused : refusal (feeding e font piece m .answer) ≡ true → (feeding e font piece m .taken ≡ 0) × (feeding e font piece m .machine ≡ m)
   feeding-refused h = refused-unchanged _ (fate e font piece m) h
 
+  -- no feeding changes the model
+  model-kept : (f : Feeding) → Fate e font piece m f → f .machine .printer .model ≡ m .printer .model
+  model-kept f (refused r t q) = ap (λ (x : Machine). x .printer .model) q
+  model-kept f (taken q) = rw q (taking e font piece m .model)
+
+  pub feeding-model : feeding e font piece m .machine .printer .model ≡ m .printer .model
+  feeding-model = model-kept _ (fate e font piece m)
+
   -- every feeding counts the bytes that it takes, and takes no more than the piece has
   counts-taken : (f : Feeding) → Fate e font piece m f → (f .machine .printer .job ≡ m .printer .job + f .taken) × (f .taken ≤ length piece)
   counts-taken f (refused r t q) = (omega (arith, ap (λ (x : Machine). x .printer .job) q), omega arith)
@@ -172,31 +190,50 @@ unfolding tell-step
 step-tells-one e font b m = tells-one e (step e font b m .event) (step e font b m .machine)
 
 -- A refused opening gives the shut state and leaves every lent store as it came.
-module _ (e : Edition) (lines spacing : ℕ) (font : List ℕ) (m : Machine) where
+module _ (w : Model) (lines spacing : ℕ) (font : List ℕ) (m : Machine) where
+  abbrev e : Edition
+  e = described w
+
   abbrev form : Form
   form = record { lines = lines; spacing = spacing }
 
   abbrev Unchanged : Opening → Type 0
-  Unchanged o = refusal (o .answer) ≡ true → o .machine ≡ with-printer shut m
+  Unchanged o = refusal (o .answer) ≡ true → o .machine ≡ with-printer (shut w) m
 
-  fitted-unchanged : (t : Fit) → Unchanged (open-fitted e form t m)
+  fitted-unchanged : (t : Fit) → Unchanged (open-fitted w form t m)
   unfolding open-fitted refusal
   fitted-unchanged Right h = absurd (true≢false (sym h))
   fitted-unchanged (Wrong lent) h = refl
 
-  tested-unchanged : (a b : Bool) → Unchanged (cond a (cond b (open-fitted e form (fit e form font m) m) (unopened WrongSpacing m)) (unopened WrongLines m))
+  tested-unchanged : (a b : Bool) → Unchanged (cond a (cond b (open-fitted w form (fit e form font m) m) (unopened w WrongSpacing m)) (unopened w WrongLines m))
   tested-unchanged true true h = fitted-unchanged (fit e form font m) h
   tested-unchanged true false h = refl
   tested-unchanged false b h = refl
 
-  pub opening-refused : refusal (opening e lines spacing font m .answer) ≡ true → opening e lines spacing font m .machine ≡ with-printer shut m
+  pub opening-refused : refusal (opening w lines spacing font m .answer) ≡ true → opening w lines spacing font m .machine ≡ with-printer (shut w) m
   unfolding opening
   opening-refused h = tested-unchanged (lines-allowed e lines) (spacing-allowed spacing) h
 
+  -- an opening gives a state of the model asked for, whatever it answers
+  opened-model : (t : Fit) → open-fitted w form t m .machine .printer .model ≡ w
+  unfolding open-fitted
+  opened-model Right = refl
+  opened-model (Wrong lent) = refl
+
+  tested-model : (a b : Bool)
+      → cond a (cond b (open-fitted w form (fit e form font m) m) (unopened w WrongSpacing m)) (unopened w WrongLines m) .machine .printer .model ≡ w
+  tested-model true true = opened-model (fit e form font m)
+  tested-model true false = refl
+  tested-model false b = refl
+
+  pub opening-model : opening w lines spacing font m .machine .printer .model ≡ w
+  unfolding opening
+  opening-model = tested-model (lines-allowed e lines) (spacing-allowed spacing)
+
 -- the shut state is unsound
-pub shut-unsound : (e : Edition) → sound e shut ≡ false
+pub shut-unsound : (e : Edition) (w : Model) → sound e (shut w) ≡ false
 unfolding sound form-sound lines-allowed
-shut-unsound e = refl
+shut-unsound e w = refl
 
 -- document 02 retired 17: no opening and no feeding answers it
 pub retired-17 : (a : Answer) → report a .number ≡ 17 → ⊥

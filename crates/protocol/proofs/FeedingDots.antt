@@ -19,7 +19,7 @@ use Rattle.sheet.proofs.Marks.{on-page}
 use Rattle.printer.specs.declared.Event.{Event}
 use Rattle.printer.specs.declared.Event.the-variants.{Quiet, Finished, Noted}
 use Rattle.printer.specs.Bytes.{step}
-use Rattle.printer.specs.Machine.{Machine}
+use Rattle.printer.specs.Machine.{Machine, limit}
 use Rattle.printer.specs.Sound.{sound}
 use Rattle.printer.specs.Steps.{Step}
 use Rattle.printer.specs.Strikes.{PutBy, Strike, put-down, strike-all, strikes-of}
@@ -33,7 +33,7 @@ use Rattle.protocol.specs.declared.Answer.{Answer}
 use Rattle.protocol.specs.declared.Answer.the-variants.{Done, JobFull, Misfit, Unsound}
 use Rattle.protocol.specs.declared.Fit.{Fit}
 use Rattle.protocol.specs.declared.Fit.the-variants.{Right, Wrong}
-use Rattle.protocol.specs.Calls.{Feeding, feed-fitted, feeding, fit, heard, limit, stopped, take-bytes}
+use Rattle.protocol.specs.Calls.{Feeding, feed-fitted, feeding, fit, heard, stopped, take-bytes}
 use Rattle.protocol.specs.Strikes.{feeding-strikes, fitted-strikes, if-quiet, taken-strikes}
 use Rattle.protocol.proofs.Accepted.{right-fitting}
 
@@ -75,7 +75,7 @@ module _ (e : Edition) (font : List ℕ) where
       inked-if f m _ _ (ltb (m .printer .job) limit)
       (heard-inked f (m .page) (strikes-of b m) _ (s .event) (s .machine) _
       (subst (λ (g : Form). AllFitting g (strikes-of b m)) q (strikes-fitting h b)) (step-page e font b m)
-      (taken-inked bs (s .machine) f (step-counts e font b m .0 ∙ q) (step-ready h font b)))
+      (taken-inked bs (s .machine) f (step-counts e font b m .form ∙ q) (step-ready h font b)))
 
   fitted-inked : (piece : List ℕ) (m : Machine) (t : Fit) → fit e (m .printer .form) font m ≡ t → sound e (m .printer) ≡ true
       → Inked (m .printer .form) (m .page) (fitted-strikes e font piece t m) (feed-fitted e font piece t m)

@@ -11,13 +11,13 @@ use Rattle.printer.specs.declared.Event.{Event}
 use Rattle.printer.specs.declared.Event.the-variants as event
 use Rattle.printer.specs.declared.Fault.{Fault}
 use Rattle.printer.specs.Bytes.{step}
-use Rattle.printer.specs.Machine.{Machine}
+use Rattle.printer.specs.Machine.{Machine, limit}
 use Rattle.printer.specs.Sound.{sound}
 use Rattle.printer.proofs.NotObeyed.{not-obeyed, noted-at}
 use Rattle.protocol.specs.declared.Answer.the-variants.{Noted, JobFull, Unsound}
 use Rattle.protocol.specs.declared.Fit.{Fit}
 use Rattle.protocol.specs.declared.Fit.the-variants.{Right, Wrong}
-use Rattle.protocol.specs.Calls.{Feeding, feed-fitted, feeding, fit, heard, limit, one-more, stopped, take-bytes}
+use Rattle.protocol.specs.Calls.{Feeding, feed-fitted, feeding, fit, heard, one-more, stopped, take-bytes}
 use Rattle.protocol.specs.Notes.{NotObeyed}
 
 module _ (f : Fault) (place : ℕ) where

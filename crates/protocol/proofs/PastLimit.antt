@@ -11,7 +11,8 @@ use lib.Dec.{leb·suc-suc, ltb}
 use lib.ListN.{drop, length, length-append, take}
 use lib.Seq.{take-all, take-append-add, take-append-le, take-nil}
 use Rattle.sheet.specs.declared.Form.{Form}
-use Rattle.sheet.specs.Edition.{Edition}
+use Rattle.sheet.specs.declared.Model.{Model}
+use Rattle.sheet.specs.Edition.{Edition, described}
 use Rattle.printer.specs.declared.Event.{Event}
 use Rattle.printer.specs.declared.Event.the-variants as event
 use Rattle.printer.specs.declared.Pending.the-variants.{Nothing}
@@ -19,7 +20,7 @@ use Rattle.printer.specs.declared.Printer.{Printer}
 use Rattle.printer.specs.Bytes.{run, step}
 use Rattle.printer.specs.Commands.{reading}
 use Rattle.printer.specs.Numbers.{Report, plain}
-use Rattle.printer.specs.Machine.{Machine}
+use Rattle.printer.specs.Machine.{Machine, limit, store-size}
 use Rattle.printer.specs.Room.{Ready}
 use Rattle.printer.specs.Steps.{Outcome, Step, form, note, tell, tell-step}
 use Rattle.printer.proofs.Appending.{run-append}
@@ -28,7 +29,7 @@ use Rattle.printer.proofs.Readings.{run-reading}
 use Rattle.printer.proofs.StaysSound.{opened-ready, run-ready, step-ready, tell-ready}
 use Rattle.protocol.specs.declared.Answer.the-variants.{Done, JobFull}
 use Rattle.protocol.specs.Answers.{report}
-use Rattle.protocol.specs.Calls.{Feeding, feeding, heard, limit, opening, take-bytes}
+use Rattle.protocol.specs.Calls.{Feeding, feeding, heard, opening, take-bytes}
 use Rattle.protocol.specs.Protocol.{Delivery, after, answered, delivered, delivered-up-to, delivery, ends, joined, offer, on, room}
 use Rattle.protocol.proofs.Accepted.{Accepted, feeding-takes, opening-accepted}
 
@@ -66,13 +67,13 @@ module _ (e : Edition) (font : List ℕ) where
     left : room m ≡ n
 
   has-step : (b n : ℕ) (m : Machine) → Has (suc n) m → Has n (step e font b m .machine)
-  has-step b n m h = record { ready = step-ready (h .ready) font b; left = omega (arith, h .left, step-counts e font b m .1) }
+  has-step b n m h = record { ready = step-ready (h .ready) font b; left = omega (arith, h .left, step-counts e font b m .job) }
 
   has-tell : (v : Event) (n : ℕ) (m : Machine) → Has n m → Has n (tell e v m .machine)
   has-tell v n m h = record { ready = tell-ready v (h .ready); left = omega (arith, h .left, ap (λ (p : Printer). p .job) (tell-printer e v m)) }
 
   has-run : (bs : List ℕ) (n : ℕ) (m : Machine) → Has (length bs + n) m → Has n (run e font bs m .machine)
-  has-run bs n m h = record { ready = run-ready font bs (h .ready); left = omega (arith, h .left, run-counts e font bs m .1) }
+  has-run bs n m h = record { ready = run-ready font bs (h .ready); left = omega (arith, h .left, run-counts e font bs m .job) }
 
   -- With no byte, with no room, and with a byte that fits.
   no-byte : (n : ℕ) (m : Machine) → up-to n [] m ≡ ends Done m
@@ -142,7 +143,7 @@ module _ (e : Edition) (font : List ℕ) where
       ∙ sym (within piece bs i m)
       ∙ ap (λ (j : ℕ). up-to j (piece ++ bs) m) (sym s))
 
-  module _ (sized : length font ≡ 2048) where
+  module _ (sized : length font ≡ store-size) where
     offer-run : (n calls : ℕ) (piece : List ℕ) (m : Machine) → length piece < calls → Has n m
         → offer e (feeding e font) calls piece m ≡ up-to n piece m
     unfolding offer
@@ -161,7 +162,7 @@ module _ (e : Edition) (font : List ℕ) where
         (piece-run piece (joined pieces) (delivery e (feeding e font) pieces) (delivery-run pieces) n m h (ltb n (length piece)) refl)
 
 -- from any machine that is ready and has nothing pending
-pub past-limit-from : {e : Edition} {m : Machine} → Ready e m → m .printer .pending ≡ Nothing → (font : List ℕ) → length font ≡ 2048
+pub past-limit-from : {e : Edition} {m : Machine} → Ready e m → m .printer .pending ≡ Nothing → (font : List ℕ) → length font ≡ store-size
     → (pieces : List (List ℕ)) → delivery e (feeding e font) pieces m ≡ delivered-up-to (room m) (reading e font) (joined pieces) m
 unfolding delivered-up-to
 past-limit-from {e} {m} h idle font sized pieces =
@@ -169,17 +170,20 @@ past-limit-from {e} {m} h idle font sized pieces =
     ∙ rw (run-reading e font (take (room m) (joined pieces)) m idle)
 
 -- A job that is opened and not refused, of any length and however it is cut.
-module _ (e : Edition) (font : List ℕ) (lines spacing : ℕ) (lent : Machine) (pieces : List (List ℕ))
-    (done : opening e lines spacing font lent .answer ≡ Done) where
+module _ (w : Model) (font : List ℕ) (lines spacing : ℕ) (lent : Machine) (pieces : List (List ℕ))
+    (done : opening w lines spacing font lent .answer ≡ Done) where
+  abbrev e : Edition
+  e = described w
+
   abbrev start : Machine
-  start = opening e lines spacing font lent .machine
+  start = opening w lines spacing font lent .machine
 
   -- THE LAW: the calls give what the reading gives of its first 4,294,967,295 bytes
   pub past-limit : delivery e (feeding e font) pieces start ≡ delivered-up-to 4294967295 (reading e font) (joined pieces) start
   past-limit =
       let f : Form = record { lines = lines; spacing = spacing } in
-      let a : Accepted e f font (opening e lines spacing font lent) = opening-accepted e lines spacing font lent done in
-      rw (a .machine) (past-limit-from (opened-ready e f (a .lines) (a .spacing)) refl font (a .font) pieces)
+      let a : Accepted w f font (opening w lines spacing font lent) = opening-accepted w lines spacing font lent done in
+      rw (a .machine) (past-limit-from (opened-ready w f (a .lines) (a .spacing)) refl font (a .font) pieces)
 
   -- the last answer is 3 exactly where the job has more bytes
   pub full-past-limit : report (delivery e (feeding e font) pieces start .answer) ≡ plain 3 ↔ 4294967295 < length (joined pieces)

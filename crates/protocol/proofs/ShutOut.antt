@@ -5,6 +5,7 @@ use mathlib.Core.List.{List, [], _∷_, map, append-nil}
 use mathlib.Core.Path.{_≡_, refl, sym, ap, _∙_}
 use native.Mathlib.Omega.{arith}
 use lib.ListN.{drop, drop-of-length-le, getD, length, replicate}
+use Rattle.sheet.specs.declared.Model.the-variants.{Lp2}
 use Rattle.sheet.specs.Edition.{lp2}
 use Rattle.sheet.specs.Form.{lines-allowed, spacing-allowed}
 use Rattle.printer.specs.declared.Fault.the-variants.{HighByte}
@@ -12,7 +13,7 @@ use Rattle.printer.specs.Alone.{alone, prints, text-byte}
 use Rattle.printer.specs.Bytes.{act, first-byte, run, second-byte, step, text-escape}
 use Rattle.printer.specs.Commands.{reading}
 use Rattle.printer.specs.Escapes.{escape}
-use Rattle.printer.specs.Machine.{Machine, empty-store}
+use Rattle.printer.specs.Machine.{Machine, empty-store, store-size}
 use Rattle.printer.specs.Numbers.{Report, plain, told-report}
 use Rattle.printer.specs.Room.{Ready}
 use Rattle.printer.specs.Steps.{Outcome, before, note, tell, tell-step}
@@ -144,7 +145,7 @@ third-byte (answer r ∷ ss) = 0
 
 top-ready : Ready lp2 at-top
 unfolding lp2 lines-allowed spacing-allowed
-top-ready = opened-ready lp2 (record { lines = 66; spacing = 6 }) refl refl
+top-ready = opened-ready Lp2 (record { lines = 66; spacing = 6 }) refl refl
 
 -- 1B 3C, which sets elongated characters, is used up and tells nothing; 80 behind it gives a note
 abbrev obeyed : List ℕ
@@ -263,7 +264,7 @@ module _ (feed : Program) where
   unfolding delivery offer answered
   done-at-once piece pieces m q = rw q
 
-  module _ (font : List ℕ) (sized : length font ≡ 2048) where
+  module _ (font : List ℕ) (sized : length font ≡ store-size) where
     -- ONE THAT OBEYS THE FIRST PIECE AND FEIGNS THE REST, answering 0 whatever it takes and leaves, falls to demand 3: with 1B 3C and then 80.
     pub feigns-the-rest : ((piece : List ℕ) (m : Machine) → m .printer .job ≡ 0 → feed piece m ≡ feeding lp2 font piece m)
         → ((piece : List ℕ) (m : Machine) → 0 < m .printer .job → feed piece m .answer ≡ Done)

@@ -7,7 +7,8 @@ use native.Mathlib.Omega.{arith}
 use borrow.Author.Tests.{ltb-true}
 use lib.Dec.{ltb}
 use Rattle.sheet.specs.declared.Form.{Form}
-use Rattle.sheet.specs.Edition.{Edition}
+use Rattle.sheet.specs.declared.Model.{Model}
+use Rattle.sheet.specs.Edition.{Edition, described}
 use Rattle.sheet.specs.Form.{lines-allowed, spacing-allowed}
 use Rattle.sheet.specs.Held.{AllBelow}
 use Rattle.sheet.proofs.Editions.{Countable}
@@ -15,7 +16,7 @@ use Rattle.printer.specs.declared.Event.{Event}
 use Rattle.printer.specs.declared.Event.the-variants as event
 use Rattle.printer.specs.Bytes.{step}
 use Rattle.printer.specs.Held.{Held, HeldMemory}
-use Rattle.printer.specs.Machine.{Machine, shut, with-printer}
+use Rattle.printer.specs.Machine.{Machine, limit, shut, with-printer}
 use Rattle.printer.specs.Room.{Ready}
 use Rattle.printer.specs.Sound.{sound}
 use Rattle.printer.specs.Steps.{Step}
@@ -27,30 +28,33 @@ use Rattle.protocol.specs.declared.Answer.the-variants.{Finished, JobFul
 use Rattle.protocol.specs.declared.Fit.{Fit}
 use Rattle.protocol.specs.declared.Fit.the-variants.{Right, Wrong}
 use Rattle.protocol.specs.Answers.{refusal}
-use Rattle.protocol.specs.Calls.{Feeding, feed-fitted, feeding, fit, heard, limit, open-fitted, opening, stopped, take-bytes, unopened}
+use Rattle.protocol.specs.Calls.{Feeding, feed-fitted, feeding, fit, heard, open-fitted, opening, stopped, take-bytes, unopened}
 use Rattle.protocol.specs.Course.{relent}
 use Rattle.protocol.proofs.Accepted.{right-fitting}
 
 -- Opening.
-module _ (e : Edition) (lines spacing : ℕ) (font : List ℕ) (m : Machine) (l : lines < 2 ^ 64) (s : spacing < 2 ^ 64) (h : HeldMemory m) where
+module _ (w : Model) (lines spacing : ℕ) (font : List ℕ) (m : Machine) (l : lines < 2 ^ 64) (s : spacing < 2 ^ 64) (h : HeldMemory m) where
+  abbrev e : Edition
+  e = described w
+
   abbrev form : Form
   form = record { lines = lines; spacing = spacing }
 
-  shut-held : Held (with-printer shut m)
-  shut-held = record { printer = new-held _ (omega arith) (omega arith); memory = h }
+  shut-held : Held (with-printer (shut w) m)
+  shut-held = record { printer = new-held w _ (omega arith) (omega arith); memory = h }
 
-  fitted-held : (t : Fit) → fit e form font m ≡ t → Held (open-fitted e form t m .machine)
+  fitted-held : (t : Fit) → fit e form font m ≡ t → Held (open-fitted w form t m .machine)
   unfolding open-fitted
-  fitted-held Right q = opened-held form l s h (right-fitting e form font m refl q .memory)
+  fitted-held Right q = opened-held w form l s h (right-fitting e form font m refl q .memory)
   fitted-held (Wrong lent) q = shut-held
 
   tested-held : (a b : Bool)
-      → Held (cond a (cond b (open-fitted e form (fit e form font m) m) (unopened WrongSpacing m)) (unopened WrongLines m) .machine)
+      → Held (cond a (cond b (open-fitted w form (fit e form font m) m) (unopened w WrongSpacing m)) (unopened w WrongLines m) .machine)
   tested-held true true = fitted-held (fit e form font m) refl
   tested-held true false = shut-held
   tested-held false b = shut-held
 
-  pub opening-held : Held (opening e lines spacing font m .machine)
+  pub opening-held : Held (opening w lines spacing font m .machine)
   unfolding opening
   opening-held = tested-held (lines-allowed e lines) (spacing-allowed spacing)
 

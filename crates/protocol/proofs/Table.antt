@@ -9,10 +9,11 @@ use lib.Dec.{T, leb}
 use lib.ListN.{length}
 use Rattle.sheet.specs.declared.Form.{Form}
 use Rattle.sheet.specs.declared.Pitch.the-variants.{Normal}
+use Rattle.sheet.specs.declared.Model.the-variants.{Lp2}
 use Rattle.sheet.specs.Edition.{lp2}
 use Rattle.sheet.specs.Form.{form-rows, lines-allowed, rows-per-line, spacing-allowed}
 use Rattle.printer.specs.Commands.{reading}
-use Rattle.printer.specs.Machine.{Machine, opened}
+use Rattle.printer.specs.Machine.{Machine, opened, store-size}
 use Rattle.printer.specs.Numbers.{plain}
 use Rattle.printer.specs.Table.{Case, Meets, found, start, table}
 use Rattle.printer.specs.Room.{Ready}
@@ -32,7 +33,7 @@ start-ready : (r : ℕ) (plotted : Bool) → r + 9 ≤ 792 → Ready lp2 (start 
 unfolding form-rows rows-per-line lines-allowed spacing-allowed lp2
 start-ready r plotted l =
     let f : Form = record { lines = 66; spacing = 6 } in
-    let h : Ready lp2 (opened lp2 f) = opened-ready lp2 f refl refl in
+    let h : Ready lp2 (opened Lp2 f) = opened-ready Lp2 f refl refl in
     let head : SoundHead f (lp2 .width Normal) (start r plotted .printer .head) = record { row = l; column = omega arith; fresh = fresh-row plotted } in
     record {
       printer = record { form = h .printer .form; head = head; tabs = h .printer .tabs; load = tt; place = tt; plot = λ t. absurd t };
@@ -51,7 +52,7 @@ table-fed : all-fed table ≡ true
 unfolding table
 table-fed = refl
 
-module _ (font : List ℕ) (sized : length font ≡ 2048) where
+module _ (font : List ℕ) (sized : length font ≡ store-size) where
   -- a job fed in one piece
   abbrev pub whole : List ℕ → Machine → Delivery
   whole job m = delivery lp2 (feeding lp2 font) (job ∷ []) m

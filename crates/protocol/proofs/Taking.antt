@@ -8,29 +8,28 @@ use native.Mathlib.Omega.{arith}
 use borrow.Author.Tests.{le-ltb, lt-ltb}
 use lib.ListN.{drop, drop-of-length-le, getD, length}
 use lib.Seq.{drop-cons}
-use Rattle.sheet.specs.Edition.{lp2}
-use Rattle.sheet.proofs.Editions.{lp2-proper}
+use Rattle.sheet.specs.Edition.{Edition}
+use Rattle.sheet.proofs.Editions.{Proper}
 use Rattle.printer.specs.declared.Event.{Event}
 use Rattle.printer.specs.declared.Event.the-variants as event
 use Rattle.printer.specs.declared.Printer.{Printer}
 use Rattle.printer.specs.Bytes.{step}
 use Rattle.printer.specs.Given.{machine}
-use Rattle.printer.specs.Machine.{Machine}
+use Rattle.printer.specs.Machine.{Machine, limit, store-size}
 use Rattle.printer.specs.Room.{Ready, Room}
 use Rattle.printer.specs.Steps.{Step}
 use Rattle.protocol.specs.declared.Answer.the-variants.{Done, JobFull}
-use Rattle.protocol.specs.Calls.{Feeding, heard, limit, one-more, stopped, take-bytes}
+use Rattle.protocol.specs.Calls.{Feeding, heard, one-more, stopped, take-bytes}
 use Rattle.protocol.specs.Given.{answer-to, given-feeding, is-quiet, more}
 
 -- a machine that is ready has all that a byte asks for
-pub ready-room : {p : Printer} {page line staging store font : List ℕ} → Ready lp2 (machine p page line staging store) → length font ≡ 2048
-    → Room p page line staging store font
-unfolding lp2
-ready-room {p} h f =
+pub ready-room : {e : Edition} → Proper e → {p : Printer} {page line staging store font : List ℕ} → Ready e (machine p page line staging store)
+    → length font ≡ store-size → Room e p page line staging store font
+ready-room proper {p} h f =
     record {
       lines = h .printer .form .most;
       row = h .printer .head .row;
-      column = omega (arith, h .printer .head .column, lp2-proper .wide (p .style .pitch));
+      column = omega (arith, h .printer .head .column, proper .wide (p .style .pitch));
       page = h .memory .page;
       line = h .memory .line;
       staging = h .memory .staging;
@@ -60,10 +59,10 @@ heard-told i event.Quiet p page line staging store f n = absurd (true≢false n)
 heard-told i event.Finished p page line staging store f n = refl
 heard-told i (event.Noted g place) p page line staging store f n = refl
 
-module _ (font piece : List ℕ) (i : ℕ) (m : Machine) where
+module _ (e : Edition) (font piece : List ℕ) (i : ℕ) (m : Machine) where
   -- the bytes that are left, with the count of those that were taken
   abbrev left : Feeding
-  left = more i (take-bytes lp2 font (drop i piece) m)
+  left = more i (take-bytes e font (drop i piece) m)
 
   pub taken-all : length piece ≤ i → left ≡ record { answer = Done; taken = i; machine = m }
   unfolding take-bytes
@@ -73,14 +72,14 @@ module _ (font piece : List ℕ) (i : ℕ) (m : Machine) where
   unfolding take-bytes
   taken-full h full = simp (drop-cons piece i 0 h, le-ltb (m .printer .job) limit (omega arith)) (more-stopped i (stopped JobFull m) refl)
 
-  module _ (s : Step) (is : s ≡ step lp2 font (getD piece i 0) m) (h : i < length piece) (room : m .printer .job < limit) where
-    pub taken-on : is-quiet (s .event) ≡ true → left ≡ more (i + 1) (take-bytes lp2 font (drop (i + 1) piece) (s .machine))
+  module _ (s : Step) (is : s ≡ step e font (getD piece i 0) m) (h : i < length piece) (room : m .printer .job < limit) where
+    pub taken-on : is-quiet (s .event) ≡ true → left ≡ more (i + 1) (take-bytes e font (drop (i + 1) piece) (s .machine))
     unfolding take-bytes
     taken-on q =
-        let rest : Feeding = take-bytes lp2 font (drop (i + 1) piece) (s .machine) in
-        let e : i + suc (rest .taken) ≡ i + 1 + rest .taken = omega arith in
+        let rest : Feeding = take-bytes e font (drop (i + 1) piece) (s .machine) in
+        let q′ : i + suc (rest .taken) ≡ i + 1 + rest .taken = omega arith in
         simp (drop-cons piece i 0 h, lt-ltb _ _ room, ← is, ← add-one i)
-        (ap (more i) (heard-quiet (s .event) (s .machine) rest q) ∙ ap (λ (n : ℕ). with-taken n rest) e)
+        (ap (more i) (heard-quiet (s .event) (s .machine) rest q) ∙ ap (λ (n : ℕ). with-taken n rest) q′)
 
     pub taken-out : is-quiet (s .event) ≡ false
         → left

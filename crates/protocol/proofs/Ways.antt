@@ -4,7 +4,8 @@ use mathlib.Core.Bool.{Bool, true, false, cond, true≢false}
 use mathlib.Core.List.{List, []}
 use mathlib.Core.Path.{_≡_, refl, ap, sym, _∙_}
 use Rattle.sheet.specs.declared.Form.{Form}
-use Rattle.sheet.specs.Edition.{Edition}
+use Rattle.sheet.specs.declared.Model.{Model}
+use Rattle.sheet.specs.Edition.{Edition, described}
 use Rattle.sheet.specs.Form.{lines-allowed, spacing-allowed}
 use Rattle.printer.specs.Machine.{Machine, opened, shut, with-printer}
 use Rattle.printer.specs.Room.{Sized}
@@ -19,43 +20,46 @@ use Rattle.protocol.specs.Calls.{Opening, feed-fitted, feeding, fit, ope
 use Rattle.protocol.proofs.Accepted.{right-fitting}
 use Rattle.protocol.proofs.Answering.{opening-refused, taking-heeds}
 
-module _ (e : Edition) (lines spacing : ℕ) (font : List ℕ) (m : Machine) where
+module _ (w : Model) (lines spacing : ℕ) (font : List ℕ) (m : Machine) where
+  abbrev e : Edition
+  e = described w
+
   abbrev form : Form
   form = record { lines = lines; spacing = spacing }
 
-  pub open-lines : lines-allowed e lines ≡ false → unopened WrongLines m ≡ opening e lines spacing font m
+  pub open-lines : lines-allowed e lines ≡ false → unopened w WrongLines m ≡ opening w lines spacing font m
   unfolding opening
   open-lines l = rw l
 
-  pub open-spacing : lines-allowed e lines ≡ true → spacing-allowed spacing ≡ false → unopened WrongSpacing m ≡ opening e lines spacing font m
+  pub open-spacing : lines-allowed e lines ≡ true → spacing-allowed spacing ≡ false → unopened w WrongSpacing m ≡ opening w lines spacing font m
   unfolding opening
   open-spacing l s = rw (l, s)
 
   module _ (l : lines-allowed e lines ≡ true) (s : spacing-allowed spacing ≡ true) where
     pub open-misfit : {tested : Fit} {lent : Lent} → tested ≡ fit e form font m → tested ≡ Wrong lent
-        → unopened (Misfit lent) m ≡ opening e lines spacing font m
+        → unopened w (Misfit lent) m ≡ opening w lines spacing font m
     unfolding opening open-fitted
     open-misfit is w = rw (l, s, ← is, w)
 
     pub open-done : {tested : Fit} → tested ≡ fit e form font m → tested ≡ Right
-        → record { answer = Done; machine = opened e form } ≡ opening e lines spacing font m
+        → record { answer = Done; machine = opened w form } ≡ opening w lines spacing font m
     unfolding opening open-fitted
     open-done is r = rw (l, s, ← is, r)
 
   -- what is refused, by the answer alone
-  pub open-refused : {a : Answer} → a ≡ opening e lines spacing font m .answer → refusal a ≡ true → unopened a m ≡ opening e lines spacing font m
+  pub open-refused : {a : Answer} → a ≡ opening w lines spacing font m .answer → refusal a ≡ true → unopened w a m ≡ opening w lines spacing font m
   open-refused {a} is r =
-      let o : Opening = opening e lines spacing font m in
-      let shuts : o .machine ≡ with-printer shut m = opening-refused e lines spacing font m (ap refusal (sym is) ∙ r) in
-      ap (λ (x : Answer). unopened x m) is ∙ ap (λ (x : Machine). record { answer = o .answer; machine = x }) (sym shuts)
+      let o : Opening = opening w lines spacing font m in
+      let shuts : o .machine ≡ with-printer (shut w) m = opening-refused w lines spacing font m (ap refusal (sym is) ∙ r) in
+      ap (λ (x : Answer). unopened w x m) is ∙ ap (λ (x : Machine). record { answer = o .answer; machine = x }) (sym shuts)
 
   -- what is not: all fits, and the job is open
   pub record Admitted : Type 0 where
     pub memory : Sized e form (m .page) (m .line) (m .staging) (m .store)
-    pub opens : record { answer = Done; machine = opened e form } ≡ opening e lines spacing font m
+    pub opens : record { answer = Done; machine = opened w form } ≡ opening w lines spacing font m
 
   admitted-by : (l s : Bool) (t : Fit) → lines-allowed e lines ≡ l → spacing-allowed spacing ≡ s → fit e form font m ≡ t
-      → refusal (cond l (cond s (open-fitted e form t m) (unopened WrongSpacing m)) (unopened WrongLines m) .answer) ≡ false → Admitted
+      → refusal (cond l (cond s (open-fitted w form t m) (unopened w WrongSpacing m)) (unopened w WrongLines m) .answer) ≡ false → Admitted
   unfolding open-fitted refusal
   admitted-by true true Right l s t r =
       record { memory = right-fitting e form font m (sym t) refl .memory; opens = open-done l s (sym t) refl }
@@ -63,7 +67,7 @@ module _ (e : Edition) (lines spacing : ℕ) (font : List ℕ) (m : Machine) whe
   admitted-by true false f l s t r = absurd (true≢false r)
   admitted-by false x f l s t r = absurd (true≢false r)
 
-  pub open-admitted : {a : Answer} → a ≡ opening e lines spacing font m .answer → refusal a ≡ false → Admitted
+  pub open-admitted : {a : Answer} → a ≡ opening w lines spacing font m .answer → refusal a ≡ false → Admitted
   unfolding opening
   open-admitted is r = admitted-by (lines-allowed e lines) (spacing-allowed spacing) (fit e form font m) refl refl refl (ap refusal (sym is) ∙ r)
 

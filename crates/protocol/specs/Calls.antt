@@ -5,12 +5,13 @@ use mathlib.Core.List.{List, [], _∷_}
 use lib.Dec.{eqb, ltb}
 use lib.ListN.{length}
 use Rattle.sheet.specs.declared.Form.{Form}
-use Rattle.sheet.specs.Edition.{Edition}
+use Rattle.sheet.specs.declared.Model.{Model}
+use Rattle.sheet.specs.Edition.{Edition, described}
 use Rattle.sheet.specs.Form.{lines-allowed, page-bytes, spacing-allowed}
 use Rattle.printer.specs.declared.Event.{Event}
 use Rattle.printer.specs.declared.Event.the-variants as event
 use Rattle.printer.specs.Bytes.{step}
-use Rattle.printer.specs.Machine.{Machine, opened, shut, with-printer}
+use Rattle.printer.specs.Machine.{Machine, limit, opened, shut, store-size, with-printer}
 use Rattle.printer.specs.Sound.{sound}
 use Rattle.printer.specs.Steps.{Step}
 use Rattle.protocol.specs.declared.Answer.{Answer}
@@ -25,9 +26,9 @@ unfoldable pub fit : Edition → Form → List ℕ → Machine → Fit
 fit e f font m =
     cond (eqb (length (m .page)) (page-bytes e f))
     (cond (eqb (length (m .line)) (e .columns))
-    (cond (eqb (length (m .staging)) 2048)
-    (cond (eqb (length (m .store)) 2048)
-    (cond (eqb (length font) 2048) Right (Wrong Font))
+    (cond (eqb (length (m .staging)) store-size)
+    (cond (eqb (length (m .store)) store-size)
+    (cond (eqb (length font) store-size) Right (Wrong Font))
     (Wrong DownloadStore))
     (Wrong Staging))
     (Wrong LineStore))
@@ -38,22 +39,23 @@ pub record Opening : Type 0 where
   pub answer : Answer
   pub machine : Machine
 
--- a refused opening gives the shut state and changes no lent memory
-abbrev pub unopened : Answer → Machine → Opening
-unopened a m = record { answer = a; machine = with-printer shut m }
+-- a refused opening gives the shut state of the model asked for and changes no lent memory
+abbrev pub unopened : Model → Answer → Machine → Opening
+unopened w a m = record { answer = a; machine = with-printer (shut w) m }
 
 -- 11 to 15, then 0
-unfoldable pub open-fitted : Edition → Form → Fit → Machine → Opening
-open-fitted e f Right m = record { answer = Done; machine = opened e f }
-open-fitted e f (Wrong lent) m = unopened (Misfit lent) m
+unfoldable pub open-fitted : Model → Form → Fit → Machine → Opening
+open-fitted w f Right m = record { answer = Done; machine = opened w f }
+open-fitted w f (Wrong lent) m = unopened w (Misfit lent) m
 
--- opening, over a machine of which only the memory counts: 18, 19, then the lengths
-unfoldable pub opening : Edition → ℕ → ℕ → List ℕ → Machine → Opening
-opening e lines spacing font m =
+-- opening a job of a model, over a machine of which only the memory counts: 18, 19, then the lengths
+unfoldable pub opening : Model → ℕ → ℕ → List ℕ → Machine → Opening
+opening w lines spacing font m =
+    let e : Edition = described w in
     let f : Form = record { lines = lines; spacing = spacing } in
     cond (lines-allowed e lines)
-    (cond (spacing-allowed spacing) (open-fitted e f (fit e f font m) m) (unopened WrongSpacing m))
-    (unopened WrongLines m)
+    (cond (spacing-allowed spacing) (open-fitted w f (fit e f font m) m) (unopened w WrongSpacing m))
+    (unopened w WrongLines m)
 
 -- what feeding gives back, with the memory as it leaves it
 pub record Feeding : Type 0 where
@@ -68,10 +70,6 @@ stopped a m = record { answer = a; taken = 0; machine = m }
 -- the same with one byte more taken before it
 abbrev pub one-more : Feeding → Feeding
 one-more f = record { answer = f .answer; taken = suc (f .taken); machine = f .machine }
-
--- the most bytes that a job may have
-abbrev pub limit : ℕ
-limit = 4294967295
 
 -- One byte leads to machine m: an event that is to be told ends the call through that byte; a quiet byte leaves it to the bytes that follow.
 unfoldable pub heard : Event → Machine → Feeding → Feeding

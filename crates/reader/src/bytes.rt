@@ -1,14 +1,13 @@
 // One byte of a job, by what is pending.
 ghost use mathlib.Core.Path.{_≡_};
 ghost use mathlib.Core.List.{List};
-ghost use Prim.Native.Nat.{ℕ, _<_};
+ghost use Prim.Native.Nat.{ℕ, _≤_, _<_};
 ghost use lib.ListN.{length};
 ghost use Rattle.glyph.specs.Words.{high-first};
-ghost use Rattle.sheet.specs.Edition.{lp2};
 ghost use Rattle.printer.specs.Alone.{alone, text-byte};
 ghost use Rattle.printer.specs.Bytes.{act, first-byte, second-byte, step, tab-byte, text-escape, waiting};
 ghost use Rattle.printer.specs.Given.{given, machine, over};
-ghost use Rattle.printer.specs.Machine.{Machine, with-printer};
+ghost use Rattle.printer.specs.Machine.{Machine, edition-of, limit, with-printer};
 ghost use Rattle.printer.specs.Room.{Room, Strikable, Writable};
 use carriage::plotting::plot_byte;
 use carriage::plotting::plot_escape;
@@ -57,9 +56,9 @@ fn text_byte(
     store: &[u8],
     font: &[u8],
 ) -> Stepped
-    requires { ⌜ Strikable p (now page) (now line) × Writable p (now line) (now store) (now font) ⌝ }
+    requires { ⌜ Strikable (edition-of p) p (now page) (now line) × Writable (edition-of p) p (now line) (now store) (now font) ⌝ }
     ensures { λ r. ⌜ ((staging : List ℕ) → given r (now (page .exit)) (now (line .exit)) staging (now (store .entry))
-        ≡ text-byte lp2 (now (font .entry)) b place (machine p (now (page .entry)) (now (line .entry)) staging (now (store .entry)))) ⌝ }
+        ≡ text-byte (edition-of p) (now (font .entry)) b place (machine p (now (page .entry)) (now (line .entry)) staging (now (store .entry)))) ⌝ }
 {
     if prints(b) {
         return print(p, b, place, line, store, font);
@@ -85,9 +84,9 @@ fn alone(
     store: &[u8],
     font: &[u8],
 ) -> Stepped
-    requires { ⌜ Strikable p (now page) (now line) × Writable p (now line) (now store) (now font) ⌝ }
+    requires { ⌜ Strikable (edition-of p) p (now page) (now line) × Writable (edition-of p) p (now line) (now store) (now font) ⌝ }
     ensures { λ r. ⌜ ((staging : List ℕ) → given r (now (page .exit)) (now (line .exit)) staging (now (store .entry))
-        ≡ alone lp2 (now (font .entry)) b place (machine p (now (page .entry)) (now (line .entry)) staging (now (store .entry)))) ⌝ }
+        ≡ alone (edition-of p) (now (font .entry)) b place (machine p (now (page .entry)) (now (line .entry)) staging (now (store .entry)))) ⌝ }
 {
     if p.head.plotting {
         plot_byte(p, b, place, line)
@@ -106,9 +105,9 @@ fn first_byte(
     store: &[u8],
     font: &[u8],
 ) -> Stepped
-    requires { ⌜ Strikable p (now page) (now line) × Writable p (now line) (now store) (now font) ⌝ }
+    requires { ⌜ Strikable (edition-of p) p (now page) (now line) × Writable (edition-of p) p (now line) (now store) (now font) ⌝ }
     ensures { λ r. ⌜ ((staging : List ℕ) → given r (now (page .exit)) (now (line .exit)) staging (now (store .entry))
-        ≡ first-byte lp2 (now (font .entry)) b place (machine p (now (page .entry)) (now (line .entry)) staging (now (store .entry)))) ⌝ }
+        ≡ first-byte (edition-of p) (now (font .entry)) b place (machine p (now (page .entry)) (now (line .entry)) staging (now (store .entry)))) ⌝ }
 {
     if b == 0x1b {
         waiting(p, Pending::Escape(place))
@@ -132,9 +131,9 @@ fn text_escape(p: Printer, b: u8, place: u32) -> Stepped
 
 // The byte after ESC.
 fn second_byte(p: Printer, b: u8, place: u32, line: &mut [u16]) -> Stepped
-    requires { ⌜ length (now line) ≡ 2200 ⌝ }
+    requires { ⌜ (p .head .column ≤ edition-of p .columns) × (length (now line) ≡ edition-of p .columns) ⌝ }
     ensures { λ r. ⌜ ((page staging store : List ℕ) → given r page (now (line .exit)) staging store
-        ≡ second-byte lp2 b place (machine p page (now (line .entry)) staging store)) ⌝ }
+        ≡ second-byte (edition-of p) b place (machine p page (now (line .entry)) staging store)) ⌝ }
 {
     if p.head.plotting {
         plot_escape(with_pending(p, Pending::Nothing), b, place, line)
@@ -166,9 +165,10 @@ fn act(
     store: &mut [u8],
     font: &[u8],
 ) -> Stepped
-    requires { ⌜ Room p (now page) (now line) (now staging) (now store) (now font) ⌝ }
+    requires { ⌜ Room (edition-of p) p (now page) (now line) (now staging) (now store) (now font) ⌝ }
     ensures { λ r. ⌜ given r (now (page .exit)) (now (line .exit)) (now (staging .exit)) (now (store .exit))
-        ≡ act lp2 (now (font .entry)) pending b here (machine p (now (page .entry)) (now (line .entry)) (now (staging .entry)) (now (store .entry))) ⌝ }
+        ≡ act (edition-of p) (now (font .entry)) pending b here
+        (machine p (now (page .entry)) (now (line .entry)) (now (staging .entry)) (now (store .entry))) ⌝ }
 {
     match pending {
         Pending::Nothing => first_byte(p, b, here, page, line, store, font),
@@ -207,9 +207,9 @@ pub fn step(
     store: &mut [u8],
     font: &[u8],
 ) -> Stepped
-    requires { ⌜ Room p (now page) (now line) (now staging) (now store) (now font) × (p .job < 4294967295) ⌝ }
+    requires { ⌜ Room (edition-of p) p (now page) (now line) (now staging) (now store) (now font) × (p .job < limit) ⌝ }
     ensures { λ r. ⌜ given r (now (page .exit)) (now (line .exit)) (now (staging .exit)) (now (store .exit))
-        ≡ step lp2 (now (font .entry)) b (machine p (now (page .entry)) (now (line .entry)) (now (staging .entry)) (now (store .entry))) ⌝ }
+        ≡ step (edition-of p) (now (font .entry)) b (machine p (now (page .entry)) (now (line .entry)) (now (staging .entry)) (now (store .entry))) ⌝ }
 {
     let pending = p.pending;
     let here = p.job;

@@ -2,12 +2,16 @@
 ghost use Prim.Native.Nat.{_+_, _*_, _≤_};
 ghost use mathlib.Core.Path.{_≡_};
 ghost use lib.ListN.{getD, length};
+ghost use Rattle.sheet.specs.Edition.{longest-page};
 use libc::STDIN_FILENO;
 use lines::say_line;
+use printer::STORE_BYTES;
 use report::say;
 use report::unread;
 use report::unwritten;
 use script::perform;
+use sheet::sizes::LONGEST_PAGE;
+use sheet::sizes::LP2_LINE_NUMBERS;
 
 mod lines;
 mod script;
@@ -125,7 +129,7 @@ fn replay_whole(
     store: &mut [u8],
 ) -> Next
     requires { ⌜ 2050 ≤ length (now script) ⌝ }
-    requires { ⌜ length (now page) ≡ 980100 ⌝ }
+    requires { ⌜ length (now page) ≡ longest-page ⌝ }
 {
     let next = after_bytes(fill(script));
     if goes_on(next) {
@@ -143,7 +147,7 @@ fn replay_sized(
     staging: &mut [u8],
     store: &mut [u8],
 ) -> Next
-    requires { ⌜ length (now page) ≡ 980100 ⌝ }
+    requires { ⌜ length (now page) ≡ longest-page ⌝ }
 {
     if size < 2050 {
         return refuse(size, script);
@@ -163,7 +167,7 @@ fn replay_next(
     staging: &mut [u8],
     store: &mut [u8],
 ) -> Next
-    requires { ⌜ length (now page) ≡ 980100 ⌝ }
+    requires { ⌜ length (now page) ≡ longest-page ⌝ }
 {
     let length = read_length();
     match length {
@@ -187,7 +191,7 @@ fn replay_all(
     staging: &mut [u8],
     store: &mut [u8],
 ) -> Next
-    requires { ⌜ length (now page) ≡ 980100 ⌝ }
+    requires { ⌜ length (now page) ≡ longest-page ⌝ }
 {
     let mut number = 0;
     while number < u64::MAX {
@@ -213,19 +217,19 @@ fn finish(next: Next) {
 // Lends the memory on.
 fn lend(
     script: &mut [u8; 262144],
-    page: &mut [u8; 980100],
-    line: &mut [u16; 2200],
-    staging: &mut [u8; 2048],
-    store: &mut [u8; 2048],
+    page: &mut [u8; LONGEST_PAGE],
+    line: &mut [u16; LP2_LINE_NUMBERS],
+    staging: &mut [u8; STORE_BYTES],
+    store: &mut [u8; STORE_BYTES],
 ) {
     finish(replay_all(script, page, line, staging, store));
 }
 
 fn main() {
     let mut script = [0u8; 262144];
-    let mut page = [0u8; 980100];
-    let mut line = [0u16; 2200];
-    let mut staging = [0u8; 2048];
-    let mut store = [0u8; 2048];
+    let mut page = [0u8; LONGEST_PAGE];
+    let mut line = [0u16; LP2_LINE_NUMBERS];
+    let mut staging = [0u8; STORE_BYTES];
+    let mut store = [0u8; STORE_BYTES];
     lend(&mut script, &mut page, &mut line, &mut staging, &mut store);
 }

@@ -2,6 +2,7 @@
 ghost use Prim.Native.Nat.{_+_, _*_, _≤_, min};
 ghost use mathlib.Core.Path.{_≡_};
 ghost use lib.ListN.{getD, length};
+ghost use Rattle.sheet.specs.Edition.{longest-page};
 use crate::lines::say_feeding;
 use crate::lines::say_left;
 use crate::lines::say_line;
@@ -15,6 +16,7 @@ use protocol::Answer;
 use protocol::Fed;
 use protocol::numbers::answer_number;
 use report::say_number;
+use sheet::Model;
 use sheet::clearing::blank;
 use sheet::sizes::page_size;
 
@@ -200,7 +202,7 @@ fn open_job(
     store: &mut [u8],
     font: &[u8],
 ) -> bool {
-    let opened = open(lines, spacing, page, line, staging, store, font);
+    let opened = open(Model::Lp2, lines, spacing, page, line, staging, store, font);
     let answer = opened.answer;
     let number = answer_number(answer);
     if !say_line(b"OPEN ", number) {
@@ -222,11 +224,11 @@ pub fn perform(
     store: &mut [u8],
 ) -> bool
     requires { ⌜ 2050 ≤ length (now script) ⌝ }
-    requires { ⌜ length (now page) ≡ 980100 ⌝ }
+    requires { ⌜ length (now page) ≡ longest-page ⌝ }
 {
     let lines = wide(script[0]);
     let spacing = wide(script[1]);
-    let size = page_size(lines, spacing);
+    let size = page_size(Model::Lp2, lines, spacing);
     open_job(
         lines,
         spacing,

@@ -13,13 +13,14 @@ use Rattle.printer.specs.declared.Pending.{Pending}
 use Rattle.printer.specs.declared.Pending.the-variants.{Nothing, Escape, Tabs, Reset, Select, SelectLow, CountHigh, CountLow, AddressHigh, AddressLow, Payload}
 use Rattle.printer.specs.Alone.{alone, prints, text-byte}
 use Rattle.printer.specs.Bytes.{act, first-byte, payload-byte, run, step}
-use Rattle.printer.specs.Machine.{Machine, with-job}
+use Rattle.printer.specs.Machine.{Machine, limit, with-job}
 use Rattle.printer.specs.Plotting.{plot, plots, plot-byte}
 use Rattle.printer.specs.Printing.{print}
 use Rattle.printer.specs.Room.{Ready}
 use Rattle.printer.specs.Steps.{Step, silent, tell, tell-step}
+use Rattle.printer.proofs.Keeping.{step-counts}
 use Rattle.printer.proofs.StaysSound.{step-ready}
-use Rattle.protocol.specs.Calls.{Feeding, heard, limit, one-more, take-bytes}
+use Rattle.protocol.specs.Calls.{Feeding, heard, one-more, take-bytes}
 use Rattle.protocol.specs.Given.{more}
 use Rattle.protocol.proofs.Taking.{more-zero}
 use Rattle.runs.specs.declared.Ran.{Ran}
@@ -56,9 +57,11 @@ module _ (e : Edition) (font : List ℕ) (b here n : ℕ) (m : Machine) where
   quiet-byte (AddressHigh place count) h = absurd (true≢false (sym h))
   quiet-byte (AddressLow place count high) h = absurd (true≢false (sym h))
 
--- n bytes of a piece lead from m to another machine, with nothing to tell: to take the piece is to take its rest from there. What was ready is so still
+-- n bytes of a piece lead from m to another machine, with nothing to tell: to take the piece is to take its rest from there. The model stays, and what
+-- was ready is so still
 pub record Leads (e : Edition) (font piece : List ℕ) (n : ℕ) (m after : Machine) : Type 0 where
   pub within : n ≤ length piece
+  pub model : after .printer .model ≡ m .printer .model
   pub ready : Ready e m → Ready e after
   pub one-by-one : run e font (take n piece) m ≡ silent after
   pub same : take-bytes e font piece m ≡ more n (take-bytes e font (drop n piece) after)
@@ -66,7 +69,7 @@ pub record Leads (e : Edition) (font piece : List ℕ) (n : ℕ) (m after : Mach
 module _ (e : Edition) (font : List ℕ) where
   leads-nowhere : (piece : List ℕ) (m : Machine) → Leads e font piece 0 m m
   unfolding run
-  leads-nowhere piece m = record { within = omega arith; ready = λ h. h; one-by-one = refl; same = more-zero _ }
+  leads-nowhere piece m = record { within = omega arith; model = refl; ready = λ h. h; one-by-one = refl; same = more-zero _ }
 
   -- a quiet byte before a run
   leads-first : (b : ℕ) (bs : List ℕ) (n : ℕ) (m after : Machine) → ltb (m .printer .job) limit ≡ true → step e font b m .event ≡ Quiet
@@ -77,6 +80,7 @@ module _ (e : Edition) (font : List ℕ) where
       let count : suc (n + rest .taken) ≡ suc n + rest .taken = omega arith in
       record {
         within = omega (arith, h .within);
+        model = h .model ∙ step-counts e font b m .model;
         ready = λ r. h .ready (step-ready r font b);
         one-by-one = simp (quiet) (h .one-by-one);
         same = simp (room, quiet) (ap one-more (h .same) ∙ ap (λ (k : ℕ). record { answer = rest .answer; taken = k; machine = rest .machine }) count);

@@ -13,9 +13,8 @@ use lib.Seq.{drop-cons}
 use Rattle.sheet.specs.Edition.{Edition}
 use Rattle.printer.specs.declared.Pending.{Pending}
 use Rattle.printer.specs.Bytes.{step}
-use Rattle.printer.specs.Machine.{Machine}
+use Rattle.printer.specs.Machine.{Machine, limit}
 use Rattle.printer.specs.Steps.{quiet}
-use Rattle.protocol.specs.Calls.{limit}
 use Rattle.runs.specs.declared.Ran.{Ran}
 use Rattle.runs.specs.Runs.{Run, fitting, given-run, goes-on, no-run, running}
 

@@ -1,6 +1,6 @@
 -- A run: the like bytes that a piece begins with, characters, plotted columns or payload, which are taken at one go. It states no rule: each byte of a
 -- run leads where it leads by itself.
-use Prim.Native.Nat.{ℕ, suc, _+_, _-_}
+use Prim.Native.Nat.{ℕ, suc, _-_}
 use mathlib.Core.Bool.{Bool, true, false, cond, not, _&&_}
 use mathlib.Core.List.{List, [], _∷_}
 use mathlib.Core.Path.{_≡_}
@@ -15,18 +15,18 @@ use Rattle.printer.specs.declared.Printer.{Printer}
 use Rattle.printer.specs.Alone.{prints}
 use Rattle.printer.specs.Bytes.{step}
 use Rattle.printer.specs.Given.{machine}
-use Rattle.printer.specs.Machine.{Machine}
+use Rattle.printer.specs.Machine.{Machine, limit}
 use Rattle.printer.specs.Plotting.{plots}
-use Rattle.protocol.specs.Calls.{limit}
+use Rattle.printer.specs.Printing.{past}
 use Rattle.runs.specs.declared.Ran.{Ran}
 
 -- a byte is a character whose cell fits the line
 abbrev pub types : Edition → ℕ → Printer → Bool
-types e b p = prints b && leb (p .head .column + cell (p .style .elongated)) (e .width (p .style .pitch))
+types e b p = prints b && leb (past e (cell (p .style .elongated)) p) (e .width (p .style .pitch))
 
--- a byte is a column, and the line has a place for it
+-- a byte is a column that fits the line
 abbrev pub draws : Edition → ℕ → Printer → Bool
-draws e b p = plots b && ltb (p .head .column) (e .width (p .style .pitch))
+draws e b p = plots b && leb (past e 1 p) (e .width (p .style .pitch))
 
 -- a byte goes on a run, by what is pending: in plot mode a column, outside it a character on no plot line, of a download payload that it lacks
 unfoldable pub goes-on : Edition → ℕ → Pending → Printer → Bool
@@ -83,4 +83,4 @@ pub record Plotting (p : Printer) : Type 0 where
 
 -- the state in which so much of a download is there, in a job of so many bytes
 abbrev pub loading : ℕ → Load → ℕ → Printer → Printer
-loading place l job p = record { form = p .form; job = job; pending = Payload place l; head = p .head; style = p .style; tabs = p .tabs }
+loading place l job p = record { model = p .model; form = p .form; job = job; pending = Payload place l; head = p .head; style = p .style; tabs = p .tabs }

@@ -2,7 +2,7 @@
 ghost use mathlib.Core.Path.{_≡_};
 ghost use mathlib.Core.List.{List};
 ghost use Prim.Native.Nat.{ℕ};
-ghost use Rattle.sheet.specs.Edition.{lp2};
+ghost use Rattle.printer.specs.Machine.{edition-of};
 ghost use Rattle.printer.specs.declared.Pending.the-variants.{Payload};
 ghost use Rattle.printer.specs.Given.{machine};
 ghost use Rattle.runs.specs.Runs.{fitting, given-run, loading, running};
@@ -17,11 +17,13 @@ use printer::Printer;
 fn staged(p: Printer, place: u32, load: Load, job: u32, taken: usize) -> Ran
     ensures { λ r. ⌜ r ≡ record { printer = loading place load job p; taken = taken } ⌝ }
 {
+    let model = p.model;
     let form = p.form;
     let head = p.head;
     let style = p.style;
     let tabs = p.tabs;
     let printer = Printer {
+        model,
         form,
         job,
         pending: Pending::Payload(place, load),
@@ -44,7 +46,7 @@ pub(crate) fn payload_run(
     requires { ⌜ (p .pending ≡ Payload place load) × (n ≡ fitting (p .job) (now piece)) ⌝ }
     ensures { λ r. ⌜ ((font page line store : List ℕ)
         → given-run r page line (now (staging .exit)) store
-        ≡ running lp2 font (now (piece .entry)) (machine p page line (now (staging .entry)) store)) ⌝ }
+        ≡ running (edition-of p) font (now (piece .entry)) (machine p page line (now (staging .entry)) store)) ⌝ }
 {
     let mut l = load;
     let mut job = p.job;

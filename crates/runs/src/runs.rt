@@ -2,16 +2,16 @@
 ghost use mathlib.Core.Path.{_≡_};
 ghost use mathlib.Core.List.{List};
 ghost use Prim.Native.Nat.{ℕ, _-_};
-ghost use Rattle.sheet.specs.Edition.{lp2};
 ghost use Rattle.printer.specs.declared.Pending.the-variants.{Nothing};
 ghost use Rattle.printer.specs.Given.{machine};
 ghost use Rattle.printer.specs.Room.{Writable};
-ghost use Rattle.protocol.specs.Calls.{limit};
+ghost use Rattle.printer.specs.Machine.{edition-of, limit};
 ghost use Rattle.runs.specs.Runs.{fitting, given-run, running};
 use crate::Ran;
 use crate::payload::payload_run;
 use crate::plots::plot_run;
 use crate::text::text_run;
+use printer::JOB_LIMIT;
 use printer::Pending;
 use printer::Printer;
 
@@ -29,7 +29,7 @@ fn none(p: Printer) -> Ran
 fn room(job: u32) -> usize
     ensures { λ r. ⌜ r ≡ limit - job ⌝ }
 {
-    (4294967295 - job) as usize
+    (JOB_LIMIT - job) as usize
 }
 
 // How many bytes of a piece fit the job.
@@ -46,10 +46,10 @@ fn fitting(job: u32, piece: &[u8]) -> usize
 
 // With nothing pending: columns in plot mode, characters outside it, and none on a plot line that plot mode has left.
 fn plain_run(p: Printer, piece: &[u8], n: usize, line: &mut [u16], store: &[u8], font: &[u8]) -> Ran
-    requires { ⌜ (p .pending ≡ Nothing) × Writable p (now line) (now store) (now font) × (n ≡ fitting (p .job) (now piece)) ⌝ }
+    requires { ⌜ (p .pending ≡ Nothing) × Writable (edition-of p) p (now line) (now store) (now font) × (n ≡ fitting (p .job) (now piece)) ⌝ }
     ensures { λ r. ⌜ ((page staging : List ℕ)
         → given-run r page (now (line .exit)) staging (now (store .entry))
-        ≡ running lp2 (now (font .entry)) (now (piece .entry)) (machine p page (now (line .entry)) staging (now (store .entry)))) ⌝ }
+        ≡ running (edition-of p) (now (font .entry)) (now (piece .entry)) (machine p page (now (line .entry)) staging (now (store .entry)))) ⌝ }
 {
     if p.head.plotting {
         return plot_run(p, piece, n, line);
@@ -69,10 +69,10 @@ pub fn run(
     store: &[u8],
     font: &[u8],
 ) -> Ran
-    requires { ⌜ Writable p (now line) (now store) (now font) ⌝ }
+    requires { ⌜ Writable (edition-of p) p (now line) (now store) (now font) ⌝ }
     ensures { λ r. ⌜ ((page : List ℕ)
         → given-run r page (now (line .exit)) (now (staging .exit)) (now (store .entry))
-        ≡ running lp2 (now (font .entry)) (now (piece .entry))
+        ≡ running (edition-of p) (now (font .entry)) (now (piece .entry))
         (machine p page (now (line .entry)) (now (staging .entry)) (now (store .entry)))) ⌝ }
 {
     let n = fitting(p.job, piece);

@@ -1,9 +1,9 @@
 -- The lines of a form and its rows, and the lengths of a blank page and an empty line.
 use Prim.Native.Nat.{ℕ, suc, _+_, _-_, _*_, _/_, _≤_, _<_}
 use mathlib.Core.Path.{_≡_, sym, _∙_}
-use mathlib.Core.Bool.{Bool, true, false, cond}
+use mathlib.Core.Bool.{Bool, true, false, cond, and-eq-true-iff}
 use native.Mathlib.Omega.{arith}
-use native.Mathlib.Nat.{mul-le-mul-left, mul-le-mul-right, div-lt-iff-lt-mul, zero-mul}
+use native.Mathlib.Nat.{add-mul, one-mul, mul-le-mul-left, mul-le-mul-right, div-lt-iff-lt-mul, zero-mul}
 use native.Mathlib.Decide.{decLe}
 use lib.Dec.{eqb, leb}
 use lib.ListN.{length, length-replicate}
@@ -11,7 +11,7 @@ use borrow.Author.Tests.{leb-true, le-leb, lt-leb}
 use Rattle.sheet.specs.declared.Form.{Form}
 use Rattle.sheet.specs.declared.Line.{Line}
 use Rattle.sheet.specs.declared.Row.{Row}
-use Rattle.sheet.specs.Edition.{Edition, lp2}
+use Rattle.sheet.specs.Edition.{Edition, longest-page}
 use Rattle.sheet.specs.Form.{blank-page, empty-line, first-row, fits, form-rows, line-of, rows-per-line, top}
 use Rattle.sheet.specs.Form.{lines-allowed, spacing-allowed, page-bytes, page-size}
 
@@ -33,15 +33,24 @@ twelve-rows spacing = either (eqb spacing 6)
     either true = omega arith
     either false = omega arith
 
--- a form of up to 99 lines has 1,188 rows at most
-pub form-rows-most : (f : Form) → f .lines ≤ 99 → form-rows f ≤ 1188
+-- a form of up to 112 lines has 1,344 rows at most
+pub form-rows-most : (f : Form) → f .lines ≤ 112 → form-rows f ≤ 1344
 unfolding form-rows
 form-rows-most f h = omega (arith, mul-le-mul-right (rows-per-line (f .spacing)) h, twelve-rows (f .spacing))
 
--- no page of LP2's is longer than that of 99 lines at 6 an inch
-pub page-bytes-most : (f : Form) → f .lines ≤ 99 → page-bytes lp2 f ≤ 980100
-unfolding page-bytes lp2
-page-bytes-most f h = omega (arith, form-rows-most f h)
+-- no page is longer than that of 112 lines at 6 an inch, with rows of 850 bytes
+pub page-bytes-most : (e : Edition) (f : Form) → e .bytes ≤ 850 → f .lines ≤ 112 → page-bytes e f ≤ longest-page
+unfolding page-bytes
+page-bytes-most e f b h = omega (arith, mul-le-mul-left (form-rows f) b, form-rows-most f h)
+
+-- what stands above a row can be counted where what stands through it can
+pub bytes-above : (rows bytes most : ℕ) → (rows + 1) * bytes ≤ most → rows * bytes + bytes ≤ most
+bytes-above rows bytes most h = omega (arith, h, add-mul rows 1 bytes, one-mul bytes)
+
+-- the lines of a form are no more than the longest form's
+pub lines-most : (e : Edition) (lines : ℕ) → lines-allowed e lines ≡ true → lines ≤ e .longest
+unfolding lines-allowed
+lines-most e lines h = leb-true lines (e .longest) (and-eq-true-iff (leb 1 lines) (leb lines (e .longest)) .0 h .1)
 
 module _ (e : Edition) (lines spacing : ℕ) where
   -- the page of a form that both tests allow

@@ -1,12 +1,14 @@
 // The three counts kept apart, line, row and grid position, and the named rules that lead to plain numbers and back.
 ghost use Prim.Native.Nat.{_+_, _*_, _≤_};
 ghost use mathlib.Core.Path.{_≡_};
-ghost use Rattle.sheet.specs.Edition.{lp2};
+ghost use Rattle.sheet.specs.Edition.{described};
 ghost use Rattle.sheet.specs.Form.{line, lines-above, lines-through, row, rows-above, top};
 ghost use Rattle.sheet.specs.Dots.{page-byte};
 use crate::Grid;
 use crate::Line;
+use crate::Model;
 use crate::Row;
+use crate::sizes::row_bytes;
 
 // Line n of a form.
 pub fn line(n: usize) -> Line
@@ -52,10 +54,10 @@ pub fn top() -> Row
 }
 
 // The byte of a page that has the dot at a position of a row.
-pub fn page_byte(row: Row, position: Grid) -> usize
-    requires { ⌜ (row .0 + 1) * 825 ≤ 18446744073709551615 ⌝ }
-    requires { ⌜ position .0 ≤ 6600 ⌝ }
-    ensures { λ r. ⌜ r ≡ page-byte lp2 row position ⌝ }
+pub fn page_byte(model: Model, row: Row, position: Grid) -> usize
+    requires { ⌜ (row .0 + 1) * described model .bytes ≤ 18446744073709551615 ⌝ }
+    requires { ⌜ position .0 ≤ 8 * described model .bytes ⌝ }
+    ensures { λ r. ⌜ r ≡ page-byte (described model) row position ⌝ }
 {
-    row.0 * 825 + position.0 / 8
+    row.0 * row_bytes(model) + position.0 / 8
 }

@@ -15,6 +15,12 @@ pub struct Form {
     pub spacing: usize,
 }
 
+// The editions of the printer.
+pub enum Model {
+    Lp2,
+    Dg6215,
+}
+
 // How far apart the columns of a line stand.
 pub enum Pitch {
     Normal,

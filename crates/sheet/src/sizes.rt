@@ -1,19 +1,68 @@
 // The sizes of a form, and the rules that lead from a line to a row and back, and from a column to the place where it stands.
 ghost use Prim.Native.Nat.{_≤_};
 ghost use mathlib.Core.Path.{_≡_};
-ghost use Rattle.sheet.specs.Edition.{lp2};
+ghost use Rattle.sheet.specs.Edition.{apart-by, described, longest-page};
 ghost use Rattle.sheet.specs.Form.{lines-allowed, spacing-allowed, rows-per-line, form-rows, page-bytes, page-size, first-row, line-of, lower, fits};
 use crate::Form;
 use crate::Grid;
 use crate::Line;
+use crate::Model;
 use crate::Pitch;
 use crate::Row;
 
-// Whether a form can have so many lines.
-pub fn lines_allowed(lines: usize) -> bool
-    ensures { λ r. ⌜ r ≡ lines-allowed lp2 lines ⌝ }
+// The lines of the longest form.
+pub const LP2_LONGEST: usize = 99;
+
+pub const DG6215_LONGEST: usize = 112;
+
+// The bytes of a row.
+pub const LP2_ROW_BYTES: usize = 825;
+
+pub const DG6215_ROW_BYTES: usize = 850;
+
+// The numbers of the line store.
+pub const LP2_LINE_NUMBERS: usize = 2200;
+
+pub const DG6215_LINE_NUMBERS: usize = 6800;
+
+// The bytes of the longest page of any model.
+pub const LONGEST_PAGE: usize = 1142400;
+
+// The lines of a model's longest form.
+fn longest(model: Model) -> usize
+    ensures { λ r. ⌜ r ≡ described model .longest ⌝ }
 {
-    1 <= lines && lines <= 99
+    match model {
+        Model::Lp2 => LP2_LONGEST,
+        Model::Dg6215 => DG6215_LONGEST,
+    }
+}
+
+// The bytes of a row.
+pub fn row_bytes(model: Model) -> usize
+    ensures { λ r. ⌜ r ≡ described model .bytes ⌝ }
+{
+    match model {
+        Model::Lp2 => LP2_ROW_BYTES,
+        Model::Dg6215 => DG6215_ROW_BYTES,
+    }
+}
+
+// The numbers of the line store.
+pub fn line_numbers(model: Model) -> usize
+    ensures { λ r. ⌜ r ≡ described model .columns ⌝ }
+{
+    match model {
+        Model::Lp2 => LP2_LINE_NUMBERS,
+        Model::Dg6215 => DG6215_LINE_NUMBERS,
+    }
+}
+
+// Whether a form can have so many lines.
+pub fn lines_allowed(model: Model, lines: usize) -> bool
+    ensures { λ r. ⌜ r ≡ lines-allowed (described model) lines ⌝ }
+{
+    1 <= lines && lines <= longest(model)
 }
 
 // Whether so many lines can stand in an inch.
@@ -32,34 +81,34 @@ pub fn rows_per_line(spacing: usize) -> usize
 
 // L × R, the rows of a form.
 fn form_rows(form: Form) -> usize
-    requires { ⌜ form .lines ≤ 99 ⌝ }
+    requires { ⌜ form .lines ≤ 112 ⌝ }
     ensures { λ r. ⌜ r ≡ form-rows form ⌝ }
-    ensures { λ r. ⌜ r ≤ 1188 ⌝ }
+    ensures { λ r. ⌜ r ≤ 1344 ⌝ }
 {
     form.lines * rows_per_line(form.spacing)
 }
 
 // The bytes of a form's page.
-pub fn page_bytes(form: Form) -> usize
-    requires { ⌜ form .lines ≤ 99 ⌝ }
-    ensures { λ r. ⌜ r ≡ page-bytes lp2 form ⌝ }
+pub fn page_bytes(model: Model, form: Form) -> usize
+    requires { ⌜ form .lines ≤ 112 ⌝ }
+    ensures { λ r. ⌜ r ≡ page-bytes (described model) form ⌝ }
 {
-    form_rows(form) * 825
+    form_rows(form) * row_bytes(model)
 }
 
 // The bytes of the page that so many lines at a spacing need, 0 where there is no such form.
-pub fn page_size(lines: usize, spacing: usize) -> usize
-    ensures { λ r. ⌜ r ≡ page-size lp2 lines spacing ⌝ }
-    ensures { λ r. ⌜ r ≤ 980100 ⌝ }
+pub fn page_size(model: Model, lines: usize, spacing: usize) -> usize
+    ensures { λ r. ⌜ r ≡ page-size (described model) lines spacing ⌝ }
+    ensures { λ r. ⌜ r ≤ longest-page ⌝ }
 {
-    if !lines_allowed(lines) {
+    if !lines_allowed(model, lines) {
         return 0;
     }
     if !spacing_allowed(spacing) {
         return 0;
     }
     let form = Form { lines, spacing };
-    page_bytes(form)
+    page_bytes(model, form)
 }
 
 // The first row of a line.
@@ -80,7 +129,7 @@ pub fn line_of(form: Form, row: Row) -> Line
 
 // The row that stands some rows lower.
 pub fn lower(row: Row, rows: usize) -> Row
-    requires { ⌜ row .0 ≤ 1188 ⌝ }
+    requires { ⌜ row .0 ≤ 1344 ⌝ }
     requires { ⌜ rows ≤ 12 ⌝ }
     ensures { λ r. ⌜ r ≡ lower rows row ⌝ }
 {
@@ -89,30 +138,53 @@ pub fn lower(row: Row, rows: usize) -> Row
 
 // Whether the nine wires of a line struck at a row stay on the form.
 pub fn fits(form: Form, row: Row) -> bool
-    requires { ⌜ form .lines ≤ 99 ⌝ }
+    requires { ⌜ form .lines ≤ 112 ⌝ }
     ensures { λ r. ⌜ r ≡ fits form row ⌝ }
 {
     let rows = form_rows(form);
     9 <= rows && row.0 <= rows - 9
 }
 
-// W, the columns of a text line.
-pub fn width(pitch: Pitch) -> usize
-    ensures { λ r. ⌜ r ≡ lp2 .width pitch ⌝ }
+// W, the positions of a text line.
+pub fn width(model: Model, pitch: Pitch) -> usize
+    ensures { λ r. ⌜ r ≡ described model .width pitch ⌝ }
 {
-    match pitch {
-        Pitch::Normal => 1320,
-        Pitch::Compressed => 2200,
+    match model {
+        Model::Lp2 => match pitch {
+            Pitch::Normal => 1320,
+            Pitch::Compressed => 2200,
+        },
+        Model::Dg6215 => 6800,
     }
 }
 
-// The grid position at which a column stands.
-pub fn grid(pitch: Pitch, column: usize) -> Grid
-    requires { ⌜ column ≤ 2200 ⌝ }
-    ensures { λ r. ⌜ r ≡ lp2 .grid pitch column ⌝ }
+// How many grid positions apart the columns of a line stand.
+fn apart_by(pitch: Pitch) -> usize
+    ensures { λ r. ⌜ r ≡ apart-by pitch ⌝ }
 {
     match pitch {
-        Pitch::Normal => Grid(5 * column),
-        Pitch::Compressed => Grid(3 * column),
+        Pitch::Normal => 5,
+        Pitch::Compressed => 3,
+    }
+}
+
+// The positions that a column takes.
+pub fn stride(model: Model, pitch: Pitch) -> usize
+    ensures { λ r. ⌜ r ≡ described model .stride pitch ⌝ }
+{
+    match model {
+        Model::Lp2 => 1,
+        Model::Dg6215 => apart_by(pitch),
+    }
+}
+
+// The grid position at which a position of a line stands.
+pub fn grid(model: Model, pitch: Pitch, position: usize) -> Grid
+    requires { ⌜ position ≤ 6800 ⌝ }
+    ensures { λ r. ⌜ r ≡ described model .grid pitch position ⌝ }
+{
+    match model {
+        Model::Lp2 => Grid(apart_by(pitch) * position),
+        Model::Dg6215 => Grid(position),
     }
 }

@@ -1,10 +1,9 @@
 // One part of the state changed, and what came of a byte.
 ghost use mathlib.Core.Path.{_≡_};
-ghost use Rattle.sheet.specs.Edition.{lp2};
 ghost use Rattle.printer.specs.declared.Event.the-variants.{Quiet, Finished, Noted};
 ghost use Rattle.printer.specs.Escapes.{after-reset, begin-plot, clear-tabs, set-downloaded, set-elongated, set-pitch, set-underscore};
 ghost use Rattle.printer.specs.Given.{bare, stepped};
-ghost use Rattle.printer.specs.Machine.{fresh-head, with-head, with-pending};
+ghost use Rattle.printer.specs.Machine.{edition-of, fresh-head, with-head, with-pending};
 ghost use Rattle.printer.specs.Plotting.{leave-plot};
 ghost use Rattle.printer.specs.Printing.{moved-to};
 use printer::Event;
@@ -52,11 +51,13 @@ pub fn noted(p: Printer, fault: Fault, place: u32) -> Stepped
 pub fn with_pending(p: Printer, next: Pending) -> Printer
     ensures { λ r. ⌜ r ≡ with-pending next (bare p) .printer ⌝ }
 {
+    let model = p.model;
     let form = p.form;
     let head = p.head;
     let style = p.style;
     let tabs = p.tabs;
     Printer {
+        model,
         form,
         job: p.job,
         pending: next,
@@ -160,7 +161,7 @@ pub fn clear_tabs(p: Printer) -> Printer
 
 // The state after a reset: a fresh line at the same row, normal pitch, no feature and no tab.
 pub fn after_reset(p: Printer) -> Printer
-    ensures { λ r. ⌜ r ≡ after-reset lp2 (bare p) .printer ⌝ }
+    ensures { λ r. ⌜ r ≡ after-reset (edition-of p) (bare p) .printer ⌝ }
 {
     let row = p.head.row;
     let style = Style {

@@ -1,7 +1,8 @@
 // Which states are sound, and what is said of a job that is closed.
 ghost use mathlib.Core.Path.{_≡_};
-ghost use Rattle.sheet.specs.Edition.{lp2};
+ghost use Rattle.sheet.specs.Edition.{described};
 ghost use Rattle.printer.specs.Closing.{closing};
+ghost use Rattle.printer.specs.Machine.{edition-of};
 ghost use Rattle.printer.specs.Sound.{at-most-escape, begun, form-sound, fresh-sound, load-sound, place-sound, plot-sound, sound, tabs-sound};
 ghost use Rattle.printer.specs.Tabs.{line-tabs};
 use printer::Begun;
@@ -10,6 +11,7 @@ use printer::Head;
 use printer::Pending;
 use printer::Printer;
 use sheet::Form;
+use sheet::Model;
 use sheet::sizes::fits;
 use sheet::sizes::lines_allowed;
 use sheet::sizes::spacing_allowed;
@@ -34,10 +36,10 @@ fn begun(pending: Pending) -> Begun
     }
 }
 
-fn form_sound(form: Form) -> bool
-    ensures { λ r. ⌜ r ≡ form-sound lp2 form ⌝ }
+fn form_sound(model: Model, form: Form) -> bool
+    ensures { λ r. ⌜ r ≡ form-sound (described model) form ⌝ }
 {
-    lines_allowed(form.lines) && spacing_allowed(form.spacing)
+    lines_allowed(model, form.lines) && spacing_allowed(form.spacing)
 }
 
 // Tabs lie on lines of the form.
@@ -119,20 +121,21 @@ fn plot_sound(head: Head, pending: Pending) -> bool
 
 // A state that bytes may be fed to.
 pub fn sound(p: Printer) -> bool
-    ensures { λ r. ⌜ r ≡ sound lp2 p ⌝ }
+    ensures { λ r. ⌜ r ≡ sound (edition-of p) p ⌝ }
 {
+    let model = p.model;
     let form = p.form;
     let head = p.head;
     let style = p.style;
     let pitch = style.pitch;
     let pending = p.pending;
-    if !form_sound(form) {
+    if !form_sound(model, form) {
         return false;
     }
     if !fits(form, head.row) {
         return false;
     }
-    if width(pitch) < head.column {
+    if width(model, pitch) < head.column {
         return false;
     }
     if !tabs_sound(p) {
@@ -152,7 +155,7 @@ pub fn sound(p: Printer) -> bool
 
 // What is said of a job that is closed in this state.
 pub fn closing(p: Printer) -> Closing
-    ensures { λ r. ⌜ r ≡ closing lp2 p ⌝ }
+    ensures { λ r. ⌜ r ≡ closing (edition-of p) p ⌝ }
 {
     if !sound(p) {
         return Closing::Unsound;

@@ -14,7 +14,7 @@ use mir.Val.{Fits}
 use Rattle.sheet.specs.declared.Grid.{Grid}
 use Rattle.sheet.specs.declared.Pitch.{Pitch}
 use Rattle.sheet.specs.declared.Row.{Row}
-use Rattle.sheet.specs.Edition.{lp2}
+use Rattle.sheet.specs.Edition.{Edition, lp2}
 use Rattle.sheet.specs.Form.{lower}
 use Rattle.sheet.specs.Dots.{bit, blacken-all, mark-if, dot-at, wire-marks, column-marks, line-marks}
 use Rattle.striking.specs.Groups.{any-wires, fields, ones, wire-dots, join-byte, join}
@@ -216,22 +216,34 @@ or-none a b e =
     let sum : bitOr a b + bitAnd a b ≡ a + b = or-add-and a b in
     (omega (arith, and-le-r a b), omega (arith, and-le-l a b))
 
--- columns with no wire set may be passed over
-pub none-set : (columns page : List ℕ) (pitch : Pitch) (r : Row) (c : ℕ) → any-wires columns ≡ 0
-    → page ≡ blacken-all page (line-marks lp2 columns pitch r c)
+-- a column with no wire set has no dots
+no-dots : (e : Edition) (column : ℕ) (r : Row) (g : Grid) → column ≡ 0 → [] ≡ column-marks e column r g
+no-dots e column r g none = sym (ap (λ (x : ℕ). column-marks e x r g) none ∙ no-wires e r g)
+
+-- so it may be passed over, and so may some columns
+pub not-set : (e : Edition) (column : ℕ) (page : List ℕ) (r : Row) (g : Grid) → column ≡ 0 → page ≡ blacken-all page (column-marks e column r g)
+unfolding blacken-all
+not-set e column page r g none = ap (blacken-all page) (no-dots e column r g none)
+
+pub none-set : (e : Edition) (columns page : List ℕ) (pitch : Pitch) (r : Row) (c : ℕ) → any-wires columns ≡ 0
+    → page ≡ blacken-all page (line-marks e columns pitch r c)
 unfolding any-wires line-marks blacken-all
-none-set [] page pitch r c q = refl
-none-set (column ∷ columns) page pitch r c q =
+none-set e [] page pitch r c q = refl
+none-set e (column ∷ columns) page pitch r c q =
     let parts = or-none column (any-wires columns) q in
-    let g : Grid = lp2 .grid pitch c in
-    let more : List ℕ = line-marks lp2 columns pitch r (c + 1) in
-    none-set columns page pitch r (c + 1) (parts .1)
-    ∙ ap (λ (dots : List ℕ). blacken-all page (dots ++ more)) (sym (ap (λ (x : ℕ). column-marks lp2 x r g) (parts .0) ∙ no-wires lp2 r g))
+    let g : Grid = e .grid pitch c in
+    let more : List ℕ = line-marks e columns pitch r (c + 1) in
+    none-set e columns page pitch r (c + 1) (parts .1)
+    ∙ ap (λ (dots : List ℕ). blacken-all page (dots ++ more)) (no-dots e column r g (parts .0))
 
 module _ (line : List ℕ) (c : ℕ) (inside : c + 8 ≤ length line) where
   -- eight columns are eight
   pub eight-long : length (take 8 (drop c line)) ≡ 8
   eight-long = length-take-le 8 (drop c line) (omega (arith, length-drop c line))
+
+  -- column k of the eight is column c + k of the line
+  pub eight-at : (k : ℕ) → k < 8 → getD (take 8 (drop c line)) k 0 ≡ getD line (c + k) 0
+  eight-at k h = getD-take 8 (drop c line) k 0 h ∙ getD-drop c line k 0
 
   -- column k of the eight is put below the fields
   pub field-more : (base skip k f all : ℕ) → k < 8 → fields base skip (drop k (take 8 (drop c line))) f ≡ all
@@ -241,8 +253,7 @@ module _ (line : List ℕ) (c : ℕ) (inside : c + 8 ≤ length line) where
       let eight : List ℕ = take 8 (drop c line) in
       let within : k < length eight = omega (arith, eight-long) in
       let first : drop k eight ≡ getD eight k 0 ∷ drop (k + 1) eight = rw (add-one, drop-cons eight k 0) in
-      let here : getD eight k 0 ≡ getD line (c + k) 0 = getD-take 8 (drop c line) k 0 h ∙ getD-drop c line k 0 in
-      ap (λ (x : ℕ). fields base skip (drop (k + 1) eight) (f * base + x / 2 ^ skip % base)) (sym here)
+      ap (λ (x : ℕ). fields base skip (drop (k + 1) eight) (f * base + x / 2 ^ skip % base)) (sym (eight-at k h))
       ∙ ap (λ (l : List ℕ). fields base skip l f) (sym first)
       ∙ so-far
 
@@ -261,8 +272,7 @@ module _ (line : List ℕ) (c : ℕ) (inside : c + 8 ≤ length line) where
       let same : suc (k - 1) ≡ k = omega arith in
       let first : drop (k - 1) eight ≡ getD eight (k - 1) 0 ∷ drop k eight =
       drop-cons eight (k - 1) 0 within ∙ ap (λ (n : ℕ). getD eight (k - 1) 0 ∷ drop n eight) same in
-      let here : getD eight (k - 1) 0 ≡ getD line (c + (k - 1)) 0 = getD-take 8 (drop c line) (k - 1) 0 (omega arith) ∙ getD-drop c line (k - 1) 0 in
-      ap₂ bitOr (sym here) so-far ∙ ap any-wires (sym first)
+      ap₂ bitOr (sym (eight-at (k - 1) (omega arith))) so-far ∙ ap any-wires (sym first)
 
   -- from column 0 on there are all
   pub any-all : (k any : ℕ) → k ≤ 0 → any ≡ any-wires (drop k (take 8 (drop c line))) → any ≡ any-wires (take 8 (drop c line))

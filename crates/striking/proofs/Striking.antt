@@ -1,33 +1,38 @@
--- The columns of a line struck eight at a time.
-use Prim.Native.Nat.{ℕ, suc, _+_, _-_, _*_, _/_, _%_, _≤_, _<_}
+-- The columns of a line struck some at a time, and where eight of them stand on the page.
+use Prim.Native.Nat.{ℕ, _+_, _*_, _/_, _%_, _≤_, _<_}
 use mathlib.Core.Path.{_≡_, refl, sym, ap, ap₂, _∙_}
-use mathlib.Core.List.{List, [], _∷_, _++_, append-assoc}
+use mathlib.Core.List.{List, [], _∷_, _++_, append-assoc, append-nil}
 use native.Mathlib.Omega.{arith}
-use native.Mathlib.Nat.{add-zero, mul-assoc}
-use lib.ListN.{length, take, drop, length-drop, take-append-drop}
-use lib.Seq.{length-take-le, take-append-le, drop-append-le, drop-drop, drop-length}
+use native.Mathlib.Nat.{add-zero, zero-add, mul-assoc}
+use lib.ListN.{length, getD, take, drop, length-drop, take-append-drop}
+use lib.Seq.{length-take-le, take-append-le, drop-append-le, drop-drop, drop-cons, drop-length}
 use Rattle.sheet.specs.declared.Grid.{Grid}
+use Rattle.sheet.specs.declared.Model.{Model}
+use Rattle.sheet.specs.declared.Model.the-variants.{Lp2, Dg6215}
 use Rattle.sheet.specs.declared.Pitch.{Pitch}
 use Rattle.sheet.specs.declared.Pitch.the-variants.{Normal, Compressed}
 use Rattle.sheet.specs.declared.Row.{Row}
-use Rattle.sheet.specs.Edition.{lp2}
+use Rattle.sheet.specs.Edition.{Edition, apart-by, described, dg6215, lp2}
 use Rattle.sheet.specs.Dots.{blacken-all, page-byte, dot-at, column-marks, line-marks, marks, struck}
-use Rattle.sheet.proofs.Editions.{lp2-proper, lp2-row}
+use Rattle.sheet.proofs.Editions.{described-proper}
 use Rattle.sheet.proofs.Blackening.{blacken-all-append, length-blacken-all}
 use Rattle.striking.specs.Room.{Room}
-use Rattle.striking.proofs.Grouping.{eight-long}
-use Rattle.striking.proofs.Wires.{between}
-
--- a line store of 2,200 columns holds those below W
-pub below-store : (pitch : Pitch) → lp2 .width pitch ≤ 2200
-unfolding lp2
-below-store pitch = lp2-proper .wide pitch
 
 -- W is a multiple of eight
-by-eight : (pitch : Pitch) → lp2 .width pitch % 8 ≡ 0
-unfolding lp2
-by-eight Normal = refl
-by-eight Compressed = refl
+by-eight : (w : Model) (pitch : Pitch) → described w .width pitch % 8 ≡ 0
+unfolding lp2 dg6215
+by-eight Lp2 Normal = refl
+by-eight Lp2 Compressed = refl
+by-eight Dg6215 pitch = refl
+
+-- from a multiple of eight below W on, eight positions are below W
+eight-below : (w : Model) (pitch : Pitch) (c : ℕ) → c % 8 ≡ 0 → c < described w .width pitch → c + 8 ≤ described w .width pitch
+eight-below w pitch c h l = omega (arith, by-eight w pitch)
+
+-- and so they are on the line
+pub on-line : (w : Model) (line : List ℕ) (pitch : Pitch) (c : ℕ) → c % 8 ≡ 0 → c < described w .width pitch → length line ≡ described w .columns
+    → c + 8 ≤ length line
+on-line w line pitch c h l full = omega (arith, eight-below w pitch c h l, described-proper w .wide pitch)
 
 -- a multiple of a multiple of eight is eight times that multiple of its eighth
 by-eighths : (n c : ℕ) → c % 8 ≡ 0 → n * c ≡ n * (c / 8) * 8
@@ -35,114 +40,145 @@ by-eighths n c h =
     let whole : c ≡ c / 8 * 8 = omega arith in
     ap (λ (k : ℕ). n * k) whole ∙ sym (mul-assoc n (c / 8) 8)
 
--- the byte in which a column stands whose number is a multiple of eight: at its top
-unfoldable byte-of : Pitch → ℕ → ℕ
-byte-of pitch c = suc (between pitch) * (c / 8)
+-- how many bytes of a row eight positions take
+abbrev pub taken : Model → Pitch → ℕ
+taken Lp2 pitch = apart-by pitch
+taken Dg6215 pitch = 1
 
-at-top : (pitch : Pitch) (c : ℕ) → c % 8 ≡ 0 → lp2 .grid pitch c .0 ≡ byte-of pitch c * 8
-unfolding lp2 between byte-of
-at-top Normal c h = by-eighths 5 c h
-at-top Compressed c h = by-eighths 3 c h
+-- a position whose number is a multiple of eight stands at the top of a byte
+at-top : (w : Model) (pitch : Pitch) (c : ℕ) → c % 8 ≡ 0 → described w .grid pitch c .0 ≡ taken w pitch * (c / 8) * 8
+unfolding lp2 dg6215
+at-top Lp2 pitch c h = by-eighths (apart-by pitch) c h
+at-top Dg6215 pitch c h = omega arith
 
--- eight columns below W fill whole bytes of a row, as many as columns stand apart
-filled : (pitch : Pitch) (c : ℕ) → c % 8 ≡ 0 → c < lp2 .width pitch → byte-of pitch c + suc (between pitch) ≤ 825
-unfolding lp2 between byte-of
-filled Normal c h l = omega arith
-filled Compressed c h l = omega arith
+-- from there on eight positions below W are within the row
+filled : (w : Model) (pitch : Pitch) (c : ℕ) → c % 8 ≡ 0 → c < described w .width pitch
+    → taken w pitch * (c / 8) + taken w pitch ≤ described w .bytes
+unfolding lp2 dg6215
+filled Lp2 Normal c h l = omega arith
+filled Lp2 Compressed c h l = omega arith
+filled Dg6215 pitch c h l = omega arith
 
--- Eight columns from c on begin at the top of byte `at`, in the row of their wire 1, and their nine rows are on the page.
-pub record Placed (page : List ℕ) (row : Row) (pitch : Pitch) (c at : ℕ) : Type 0 where
-  pub top : at * 8 ≡ dot-at lp2 row (lp2 .grid pitch c)
-  pub fits : at + 6600 + suc (between pitch) ≤ length page
+-- Eight positions from c on begin at the top of byte `at`, in the row of their wire 1, and their nine rows are on the page.
+pub record Placed (w : Model) (page : List ℕ) (row : Row) (pitch : Pitch) (c at : ℕ) : Type 0 where
+  pub top : at * 8 ≡ dot-at (described w) row (described w .grid pitch c)
+  pub fits : at + 8 * described w .bytes + taken w pitch ≤ length page
 
--- so they do in a row from which on there is room, at the byte that the column's place on the grid gives
-pub placed : (page line : List ℕ) (row : Row) (p q : Pitch) (c : ℕ) (g : Grid) (at : ℕ) → Room page line row → c % 8 ≡ 0 → c < lp2 .width p → p ≡ q
-    → g ≡ lp2 .grid p c → at ≡ page-byte lp2 row g → Placed page row q c at
-unfolding dot-at page-byte lp2
-placed page line row p q c g at room h l same e byte =
-    let here : g .0 ≡ byte-of p c * 8 = ap (λ (k : Grid). k .0) e ∙ at-top p c h in
-    let spot : g .0 ≡ lp2 .grid q c .0 = ap (λ (k : Grid). k .0) e ∙ ap (λ (k : Pitch). lp2 .grid k c .0) same in
-    let place : at * 8 ≡ row .0 * 6600 + lp2 .grid q c .0 = omega arith in
+-- so they do in a row from which on there is room, at the byte that the position's place on the grid gives
+pub placed : (w : Model) (page line : List ℕ) (row : Row) (p q : Pitch) (c : ℕ) (g : Grid) (at : ℕ) → Room (described w) page line row → c % 8 ≡ 0
+    → c < described w .width p → p ≡ q → g ≡ described w .grid p c → at ≡ page-byte (described w) row g → Placed w page row q c at
+unfolding dot-at page-byte
+placed w page line row p q c g at room h l same e byte =
+    let here : g .0 ≡ taken w p * (c / 8) * 8 = ap (λ (k : Grid). k .0) e ∙ at-top w p c h in
+    let spot : g .0 ≡ described w .grid q c .0 = ap (λ (k : Grid). k .0) e ∙ ap (λ (k : Pitch). described w .grid k c .0) same in
     record {
-      top = place ∙ ap (λ (w : ℕ). row .0 * w + lp2 .grid q c .0) (sym lp2-row);
-      fits = omega (arith, filled p c h l, room .rows, ap between same);
+      top = omega arith;
+      fits = omega (arith, filled w p c h l, room .rows, ap (taken w) same);
     }
 
 -- the dots of some columns and of others after them
-line-append : (xs ys : List ℕ) (pitch : Pitch) (r : Row) (c : ℕ)
-    → line-marks lp2 (xs ++ ys) pitch r c ≡ line-marks lp2 xs pitch r c ++ line-marks lp2 ys pitch r (c + length xs)
+line-append : (e : Edition) (xs ys : List ℕ) (pitch : Pitch) (r : Row) (c : ℕ)
+    → line-marks e (xs ++ ys) pitch r c ≡ line-marks e xs pitch r c ++ line-marks e ys pitch r (c + length xs)
 unfolding line-marks
-line-append [] ys pitch r c = ap (line-marks lp2 ys pitch r) (sym (add-zero c))
-line-append (x ∷ xs) ys pitch r c =
+line-append e [] ys pitch r c = ap (line-marks e ys pitch r) (sym (add-zero c))
+line-append e (x ∷ xs) ys pitch r c =
     let count : c + 1 + length xs ≡ c + length (x ∷ xs) = omega arith in
-    ap (λ (l : List ℕ). column-marks lp2 x r (lp2 .grid pitch c) ++ l)
-    (line-append xs ys pitch r (c + 1) ∙ ap (λ (k : ℕ). line-marks lp2 xs pitch r (c + 1) ++ line-marks lp2 ys pitch r k) count)
-    ∙ sym (append-assoc (column-marks lp2 x r (lp2 .grid pitch c)) (line-marks lp2 xs pitch r (c + 1)) (line-marks lp2 ys pitch r (c + length (x ∷ xs))))
+    ap (λ (l : List ℕ). column-marks e x r (e .grid pitch c) ++ l)
+    (line-append e xs ys pitch r (c + 1) ∙ ap (λ (k : ℕ). line-marks e xs pitch r (c + 1) ++ line-marks e ys pitch r k) count)
+    ∙ sym (append-assoc (column-marks e x r (e .grid pitch c)) (line-marks e xs pitch r (c + 1)) (line-marks e ys pitch r (c + length (x ∷ xs))))
 
--- the columns from c on that are below w are the eight columns from c on and those after them
-eight-first : (line : List ℕ) (w c : ℕ) → w ≤ length line → c + 8 ≤ w
-    → drop c (take w line) ≡ take 8 (drop c line) ++ drop (c + 8) (take w line)
-eight-first line w c within inside =
-    let low : List ℕ = take w line in
-    let size : length low ≡ w = length-take-le w line within in
-    let rest : length (drop c low) ≡ w - c = length-drop c low ∙ ap (λ (n : ℕ). n - c) size in
-    let same : take 8 (drop c line) ≡ take 8 (drop c low) =
-    ap (λ (l : List ℕ). take 8 (drop c l)) (sym (take-append-drop w line))
-    ∙ ap (take 8) (drop-append-le c low (drop w line) (omega arith))
-    ∙ take-append-le 8 (drop c low) (drop w line) (omega arith) in
-    sym (take-append-drop 8 (drop c low)) ∙ ap₂ (λ (l m : List ℕ). l ++ m) (sym same) (drop-drop 8 c low)
-
--- from a multiple of eight below W on, eight columns are below W
-eight-below : (pitch : Pitch) (c : ℕ) → c % 8 ≡ 0 → c < lp2 .width pitch → c + 8 ≤ lp2 .width pitch
-eight-below pitch c h l = omega (arith, by-eight pitch)
-
--- and so they are on the line
-pub on-line : (line : List ℕ) (pitch : Pitch) (c : ℕ) → c % 8 ≡ 0 → c < lp2 .width pitch → length line ≡ 2200 → c + 8 ≤ length line
-on-line line pitch c h l full = omega (arith, eight-below pitch c h l, below-store pitch)
-
--- The columns before c are struck, eights of them: those left make of the page what all make of it at entry, and it keeps its length.
-pub record Left (line : List ℕ) (pitch : Pitch) (r : Row) (entry : List ℕ) (c : ℕ) (page : List ℕ) : Type 0 where
-  pub same : blacken-all page (line-marks lp2 (drop c (take (lp2 .width pitch) line)) pitch r c) ≡ struck lp2 entry line r pitch
-  pub whole : c % 8 ≡ 0
-  pub within : c ≤ lp2 .width pitch
+-- Of some columns, the first of which is column c, the first n are struck: those left make of the page what all make of it at entry, and it keeps
+-- its length.
+pub record Left (e : Edition) (columns : List ℕ) (pitch : Pitch) (r : Row) (c : ℕ) (entry : List ℕ) (n : ℕ) (page : List ℕ) : Type 0 where
+  pub same : blacken-all page (line-marks e (drop n columns) pitch r (c + n)) ≡ blacken-all entry (line-marks e columns pitch r c)
+  pub within : n ≤ length columns
   pub kept : length page ≡ length entry
 
-module _ (line : List ℕ) (pitch : Pitch) (r : Row) (entry : List ℕ) where
+module _ (e : Edition) (columns : List ℕ) (pitch : Pitch) (r : Row) (c : ℕ) (entry : List ℕ) where
   -- before the first all are left
-  pub all-left : Left line pitch r entry 0 entry
-  unfolding struck marks
-  all-left = record { same = refl; whole = refl; within = omega arith; kept = refl }
+  pub all-left : Left e columns pitch r c entry 0 entry
+  all-left =
+      record { same = ap (λ (k : ℕ). blacken-all entry (line-marks e columns pitch r k)) (add-zero c); within = omega arith; kept = refl }
 
-  -- once the eight columns from c on are struck, those after them are left
-  pub eight-struck : (page next : List ℕ) (c : ℕ) → length line ≡ 2200 → Left line pitch r entry c page → c < lp2 .width pitch
-      → next ≡ blacken-all page (line-marks lp2 (take 8 (drop c line)) pitch r c) → Left line pitch r entry (c + 8) next
-  eight-struck page next c full left below e =
-      let w : ℕ = lp2 .width pitch in
-      let eight : List ℕ = take 8 (drop c line) in
-      let rest : List ℕ = drop (c + 8) (take w line) in
-      let within : w ≤ length line = omega (arith, below-store pitch) in
-      let inside : c + 8 ≤ w = eight-below pitch c (left .whole) below in
-      let long : length eight ≡ 8 = eight-long line c (omega arith) in
+  -- once the m columns that are next are struck, those after them are left
+  pub some-struck : (page next : List ℕ) (n m : ℕ) → n + m ≤ length columns → Left e columns pitch r c entry n page
+      → next ≡ blacken-all page (line-marks e (take m (drop n columns)) pitch r (c + n)) → Left e columns pitch r c entry (n + m) next
+  some-struck page next n m inside left is =
+      let some : List ℕ = take m (drop n columns) in
+      let rest : List ℕ = drop (n + m) columns in
+      let long : length some ≡ m = length-take-le m (drop n columns) (omega (arith, length-drop n columns)) in
+      let place : c + (n + m) ≡ c + n + length some = omega arith in
+      let parts : some ++ rest ≡ drop n columns = ap (λ (l : List ℕ). some ++ l) (sym (drop-drop m n columns)) ∙ take-append-drop m (drop n columns) in
       record {
         same =
-            ap (λ (p : List ℕ). blacken-all p (line-marks lp2 rest pitch r (c + 8))) e
-            ∙ sym (blacken-all-append page (line-marks lp2 eight pitch r c) (line-marks lp2 rest pitch r (c + 8)))
-            ∙ ap (λ (k : ℕ). blacken-all page (line-marks lp2 eight pitch r c ++ line-marks lp2 rest pitch r (c + k))) (sym long)
-            ∙ ap (blacken-all page) (sym (line-append eight rest pitch r c))
-            ∙ ap (λ (k : List ℕ). blacken-all page (line-marks lp2 k pitch r c)) (sym (eight-first line w c within inside))
+            ap₂ (λ (p : List ℕ) (k : ℕ). blacken-all p (line-marks e rest pitch r k)) is place
+            ∙ sym (blacken-all-append page (line-marks e some pitch r (c + n)) (line-marks e rest pitch r (c + n + length some)))
+            ∙ ap (blacken-all page) (sym (line-append e some rest pitch r (c + n)))
+            ∙ ap (λ (l : List ℕ). blacken-all page (line-marks e l pitch r (c + n))) parts
             ∙ left .same;
-        whole = omega (arith, left .whole);
         within = inside;
-        kept = ap length e ∙ length-blacken-all page _ ∙ left .kept;
+        kept = ap length is ∙ length-blacken-all page _ ∙ left .kept;
       }
 
-  -- at W none is left
-  pub none-left : (page : List ℕ) (c : ℕ) → length line ≡ 2200 → Left line pitch r entry c page → lp2 .width pitch ≤ c
-      → page ≡ struck lp2 entry line r pitch
+  -- so it is with one column
+  pub one-struck : (page next : List ℕ) (n : ℕ) → n < length columns → Left e columns pitch r c entry n page
+      → next ≡ blacken-all page (column-marks e (getD columns n 0) r (e .grid pitch (c + n))) → Left e columns pitch r c entry (n + 1) next
+  unfolding line-marks
+  one-struck page next n inside left is =
+      let one : getD columns n 0 ∷ [] ≡ take 1 (drop n columns) = ap (take 1) (sym (drop-cons columns n 0 inside)) in
+      some-struck page next n 1 (omega arith) left
+      (is
+      ∙ ap (blacken-all page) (sym (append-nil _))
+      ∙ ap (λ (l : List ℕ). blacken-all page (line-marks e l pitch r (c + n))) one)
+
+  -- at the end none is left
+  pub none-left : (page : List ℕ) (n : ℕ) → Left e columns pitch r c entry n page → length columns ≤ n
+      → page ≡ blacken-all entry (line-marks e columns pitch r c)
   unfolding blacken-all line-marks
-  none-left page c full left end =
-      let low : List ℕ = take (lp2 .width pitch) line in
-      let size : length low ≡ lp2 .width pitch = length-take-le (lp2 .width pitch) line (omega (arith, below-store pitch)) in
-      let last : c ≡ length low = omega (arith, left .within) in
-      let none : drop c low ≡ [] = ap (λ (n : ℕ). drop n low) last ∙ drop-length low in
-      sym (ap (λ (l : List ℕ). blacken-all page (line-marks lp2 l pitch r c)) none) ∙ left .same
+  none-left page n left end =
+      let last : n ≡ length columns = omega (arith, left .within) in
+      let none : drop n columns ≡ [] = ap (λ (k : ℕ). drop k columns) last ∙ drop-length columns in
+      sym (ap (λ (l : List ℕ). blacken-all page (line-marks e l pitch r (c + n))) none) ∙ left .same
+
+-- of the columns below w, eight from c on are eight of the line
+eight-of : (line : List ℕ) (w c : ℕ) → w ≤ length line → c + 8 ≤ w → take 8 (drop c line) ≡ take 8 (drop c (take w line))
+eight-of line w c within inside =
+    let low : List ℕ = take w line in
+    let size : length low ≡ w = length-take-le w line within in
+    ap (λ (l : List ℕ). take 8 (drop c l)) (sym (take-append-drop w line))
+    ∙ ap (take 8) (drop-append-le c low (drop w line) (omega arith))
+    ∙ take-append-le 8 (drop c low) (drop w line) (omega (arith, length-drop c low))
+
+-- The positions before c of a line are struck, eights of them.
+pub record Walked (w : Model) (line : List ℕ) (pitch : Pitch) (r : Row) (entry : List ℕ) (c : ℕ) (page : List ℕ) : Type 0 where
+  pub left : Left (described w) (take (described w .width pitch) line) pitch r 0 entry c page
+  pub whole : c % 8 ≡ 0
+
+module _ (w : Model) (line : List ℕ) (pitch : Pitch) (r : Row) (entry : List ℕ) where
+  pub none-walked : Walked w line pitch r entry 0 entry
+  none-walked = record { left = all-left _ _ _ _ _ _; whole = refl }
+
+  -- eight positions more
+  pub eight-struck : (page next : List ℕ) (c : ℕ) → length line ≡ described w .columns → Walked w line pitch r entry c page
+      → c < described w .width pitch → next ≡ blacken-all page (line-marks (described w) (take 8 (drop c line)) pitch r c)
+      → Walked w line pitch r entry (c + 8) next
+  eight-struck page next c full walked below is =
+      let e : Edition = described w in
+      let width : ℕ = e .width pitch in
+      let within : width ≤ length line = omega (arith, described-proper w .wide pitch) in
+      let inside : c + 8 ≤ width = eight-below w pitch c (walked .whole) below in
+      let long : length (take width line) ≡ width = length-take-le width line within in
+      let same = ap₂ (λ (l : List ℕ) (k : ℕ). blacken-all page (line-marks e l pitch r k)) (eight-of line width c within inside) (sym (zero-add c)) in
+      record {
+        left = some-struck e (take width line) pitch r 0 entry page next c 8 (omega arith) (walked .left) (is ∙ same);
+        whole = omega (arith, walked .whole);
+      }
+
+  -- at W the line is struck
+  pub all-walked : (page : List ℕ) (c : ℕ) → length line ≡ described w .columns → Walked w line pitch r entry c page → described w .width pitch ≤ c
+      → page ≡ struck (described w) entry line r pitch
+  unfolding struck marks
+  all-walked page c full walked end =
+      let width : ℕ = described w .width pitch in
+      let long : length (take width line) ≡ width = length-take-le width line (omega (arith, described-proper w .wide pitch)) in
+      none-left (described w) (take width line) pitch r 0 entry page c (walked .left) (omega arith)

@@ -8,7 +8,7 @@ use lib.ListN.{length, getD}
 use Rattle.sheet.specs.declared.Pitch.{Pitch}
 use Rattle.sheet.specs.declared.Pitch.the-variants.{Normal, Compressed}
 use Rattle.sheet.specs.declared.Row.{Row}
-use Rattle.sheet.specs.Edition.{lp2}
+use Rattle.sheet.specs.Edition.{apart-by, lp2}
 use Rattle.sheet.specs.Dots.{blacken-all, dot-at, line-marks}
 use Rattle.striking.specs.Groups.{fields, wire-dots, join}
 use Rattle.sheet.proofs.Blackening.{blacken-all-append}
@@ -104,8 +104,7 @@ module _ (z : ℕ) (held columns page : List ℕ) (at : ℕ) (eight : length col
 
 -- how far apart columns stand, less one
 unfoldable pub between : Pitch → ℕ
-between Normal = 4
-between Compressed = 2
+between pitch = apart-by pitch - 1
 
 apart : (pitch : Pitch) (c : ℕ) → lp2 .grid pitch (c + 1) .0 ≡ lp2 .grid pitch c .0 + suc (between pitch)
 unfolding lp2 between

@@ -1,5 +1,5 @@
-// Striking eight columns at a time. Eight columns fill whole bytes of a row, five in normal pitch and three in compressed. So the dots of
-// one wire of eight columns are the bytes of one number, and that wire of all eight is struck by joining those bytes to the page's.
+// Striking a line of LP2 eight columns at a time. Eight columns fill whole bytes of a row, five in normal pitch and three in compressed. So the
+// dots of one wire of eight columns are the bytes of one number, and that wire of all eight is struck by joining those bytes to the page's.
 ghost use Prim.Native.Nat.{ℕ, _+_, _*_, _%_, _≤_, _<_};
 ghost use mathlib.Core.Path.{_≡_};
 ghost use mathlib.Core.List.{List};
@@ -10,13 +10,15 @@ ghost use Rattle.sheet.specs.Edition.{lp2};
 ghost use Rattle.sheet.specs.Dots.{blacken-all, dot-at, line-marks};
 ghost use Rattle.striking.specs.Groups.{any-wires, fields, wire-dots, join-byte, join};
 ghost use Rattle.striking.specs.Room.{Room};
+use sheet::Model;
 use sheet::Pitch;
 use sheet::Row;
 use sheet::counts::page_byte;
+use sheet::sizes::LP2_ROW_BYTES;
 use sheet::sizes::grid;
 
 // The wires that any of the eight columns from c on has.
-fn any_wires(line: &[u16], c: usize) -> u16
+pub(crate) fn any_wires(line: &[u16], c: usize) -> u16
     requires { ⌜ c + 8 ≤ length (now line) ⌝ }
     ensures { λ r. ⌜ r ≡ any-wires (take 8 (drop c (now (line .entry)))) ⌝ }
 {
@@ -46,7 +48,7 @@ fn fields(line: &[u16], c: usize, base: u64, skip: u32) -> u64
 }
 
 // Joins the lowest byte of `dots` to byte i of the page.
-fn join_byte(page: &mut [u8], i: usize, dots: u64)
+pub(crate) fn join_byte(page: &mut [u8], i: usize, dots: u64)
     requires { ⌜ i < length (now page) ⌝ }
     ensures { λ _. ⌜ now (page .exit) ≡ join-byte (now (page .entry)) i dots ⌝ }
 {
@@ -87,14 +89,14 @@ fn wires_normal(page: &mut [u8], at: usize, low: u64, high: u64)
         → at * 8 ≡ dot-at lp2 r (lp2 .grid Normal c) → now (page .exit) ≡ blacken-all (now (page .entry)) (line-marks lp2 columns Normal r c)) ⌝ }
 {
     wire_normal(page, at, high, 3);
-    wire_normal(page, at + 825, high, 2);
-    wire_normal(page, at + 1650, high, 1);
-    wire_normal(page, at + 2475, high, 0);
-    wire_normal(page, at + 3300, low, 4);
-    wire_normal(page, at + 4125, low, 3);
-    wire_normal(page, at + 4950, low, 2);
-    wire_normal(page, at + 5775, low, 1);
-    wire_normal(page, at + 6600, low, 0);
+    wire_normal(page, at + LP2_ROW_BYTES, high, 2);
+    wire_normal(page, at + 2 * LP2_ROW_BYTES, high, 1);
+    wire_normal(page, at + 3 * LP2_ROW_BYTES, high, 0);
+    wire_normal(page, at + 4 * LP2_ROW_BYTES, low, 4);
+    wire_normal(page, at + 5 * LP2_ROW_BYTES, low, 3);
+    wire_normal(page, at + 6 * LP2_ROW_BYTES, low, 2);
+    wire_normal(page, at + 7 * LP2_ROW_BYTES, low, 1);
+    wire_normal(page, at + 8 * LP2_ROW_BYTES, low, 0);
 }
 
 // Strikes the nine wires of eight columns in compressed pitch, each a row below the one before: wires 1 to 3 are in the fields `high`, 4 to 6
@@ -106,14 +108,14 @@ fn wires_compressed(page: &mut [u8], at: usize, low: u64, middle: u64, high: u64
         → now (page .exit) ≡ blacken-all (now (page .entry)) (line-marks lp2 columns Compressed r c)) ⌝ }
 {
     wire_compressed(page, at, high, 2);
-    wire_compressed(page, at + 825, high, 1);
-    wire_compressed(page, at + 1650, high, 0);
-    wire_compressed(page, at + 2475, middle, 2);
-    wire_compressed(page, at + 3300, middle, 1);
-    wire_compressed(page, at + 4125, middle, 0);
-    wire_compressed(page, at + 4950, low, 2);
-    wire_compressed(page, at + 5775, low, 1);
-    wire_compressed(page, at + 6600, low, 0);
+    wire_compressed(page, at + LP2_ROW_BYTES, high, 1);
+    wire_compressed(page, at + 2 * LP2_ROW_BYTES, high, 0);
+    wire_compressed(page, at + 3 * LP2_ROW_BYTES, middle, 2);
+    wire_compressed(page, at + 4 * LP2_ROW_BYTES, middle, 1);
+    wire_compressed(page, at + 5 * LP2_ROW_BYTES, middle, 0);
+    wire_compressed(page, at + 6 * LP2_ROW_BYTES, low, 2);
+    wire_compressed(page, at + 7 * LP2_ROW_BYTES, low, 1);
+    wire_compressed(page, at + 8 * LP2_ROW_BYTES, low, 0);
 }
 
 // Strikes the eight columns from c on, in normal pitch.
@@ -141,15 +143,15 @@ fn eight_compressed(page: &mut [u8], line: &[u16], at: usize, c: usize)
 
 // Strikes the eight columns from c on, with wire 1 in `row`. As c is a multiple of eight, their dots begin at the top of a byte. Eight
 // empty columns are passed over.
-pub(crate) fn eight(page: &mut [u8], line: &[u16], row: Row, pitch: Pitch, c: usize)
-    requires { ⌜ Room (now page) (now line) row ⌝ }
+pub(crate) fn eight_columns(page: &mut [u8], line: &[u16], row: Row, pitch: Pitch, c: usize)
+    requires { ⌜ Room lp2 (now page) (now line) row ⌝ }
     requires { ⌜ (c % 8 ≡ 0) × (c < lp2 .width pitch) ⌝ }
     ensures { λ _. ⌜ now (page .exit) ≡ blacken-all (now (page .entry)) (line-marks lp2 (take 8 (drop c (now (line .entry)))) pitch row c) ⌝ }
 {
     if any_wires(line, c) == 0 {
         return;
     }
-    let at = page_byte(row, grid(pitch, c));
+    let at = page_byte(Model::Lp2, row, grid(Model::Lp2, pitch, c));
     match pitch {
         Pitch::Normal => eight_normal(page, line, at, c),
         Pitch::Compressed => eight_compressed(page, line, at, c),

@@ -2,12 +2,15 @@
 use Prim.Native.Nat.{ℕ, _≤_}
 use mathlib.Core.Bool.{Bool, true, false, _&&_}
 use mathlib.Core.List.{List}
-use mathlib.Core.Path.{_≡_, refl}
+use mathlib.Core.Path.{_≡_, refl, ap, sym, _∙_}
 use borrow.Author.Tests.{eq-eqb, le-leb}
 use lib.Dec.{eqb, leb}
 use lib.ListN.{getD, length}
+use Rattle.sheet.specs.declared.Model.{Model}
+use Rattle.sheet.specs.declared.Model.the-variants.{Lp2}
 use Rattle.sheet.specs.declared.Pitch.{Pitch}
 use Rattle.sheet.specs.declared.Pitch.the-variants.{Normal, Compressed}
+use Rattle.printer.specs.Machine.{limit}
 use Rattle.printer.specs.declared.Pending.{Pending}
 use Rattle.printer.specs.declared.Pending.the-variants.{Nothing, Escape, Tabs, Reset, Select, SelectLow, CountHigh, CountLow, AddressHigh, AddressLow, Payload}
 use Rattle.printer.specs.declared.Printer.{Printer}
@@ -56,9 +59,17 @@ six-words (AddressHigh place count) = refl
 six-words (AddressLow place count high) = refl
 six-words (Payload place l) = refl
 
-pub state-kept : (p : Printer) → state-of (state-words p) ≡ p
+-- a state as one of another model
+abbrev of-model : Model → Printer → Printer
+of-model w p = record { model = w; form = p .form; job = p .job; pending = p .pending; head = p .head; style = p .style; tabs = p .tabs }
+
+lp2-kept : (p : Printer) → state-of (state-words p) ≡ of-model Lp2 p
 unfolding state-of state-words
-state-kept p = simp (truth-kept, pitch-kept, pending-kept)
+lp2-kept p = simp (truth-kept, pitch-kept, pending-kept)
+
+-- THE LAW: of an LP2's state
+pub state-kept : (p : Printer) → p .model ≡ Lp2 → state-of (state-words p) ≡ p
+state-kept p is = lp2-kept p ∙ ap (λ (w : Model). of-model w p) (sym is)
 
 pub twenty-words : (p : Printer) → length (state-words p) ≡ state-size
 unfolding state-words
@@ -77,7 +88,7 @@ pitch-small Compressed = refl
 -- the six words of what is pending are in range
 in-six : (q : Pending) → Ranged q
     → (at-most 10 (part 0 1 (pending-words q))
-    && at-most 4294967295 (part 1 1 (pending-words q))
+    && at-most limit (part 1 1 (pending-words q))
     && at-most 255 (part 2 1 (pending-words q))
     && at-most 65535 (part 3 3 (pending-words q)))
     ≡ true
@@ -94,11 +105,11 @@ in-six (AddressHigh place count) h = simp (le-leb _ _ (h .0), le-leb _ _ (h .1))
 in-six (AddressLow place count high) h = simp (le-leb _ _ (h .0), le-leb _ _ (h .1), le-leb _ _ (h .2))
 in-six (Payload place l) h = simp (le-leb _ _ (h .0), le-leb _ _ (h .1), le-leb _ _ (h .2), le-leb _ _ (h .3), le-leb _ _ (h .4))
 
-put-in-range : (p : Printer) → p .job ≤ 4294967295 → Ranged (p .pending) → in-range (state-words p) ≡ true
+put-in-range : (p : Printer) → p .job ≤ limit → Ranged (p .pending) → in-range (state-words p) ≡ true
 unfolding in-range state-words at-most
 put-in-range p j h = simp (le-leb _ _ j, truth-small, pitch-small) (in-six (p .pending) h)
 
 -- what was put together is a state
-pub put-is-state : (p : Printer) → p .job ≤ 4294967295 → Ranged (p .pending) → is-state (state-words p) ≡ true
+pub put-is-state : (p : Printer) → p .job ≤ limit → Ranged (p .pending) → is-state (state-words p) ≡ true
 unfolding is-state
 put-is-state p j h = simp (eq-eqb _ _ (twenty-words p)) (put-in-range p j h)

@@ -4,6 +4,7 @@ use mathlib.Core.List.{List}
 use mathlib.Core.Path.{_≡_}
 use lib.Dec.{eqb}
 use lib.ListN.{getD}
+use Rattle.sheet.specs.declared.Model.the-variants.{Lp2}
 use Rattle.sheet.specs.declared.Pitch.{Pitch}
 use Rattle.sheet.specs.declared.Row.{Row}
 use Rattle.printer.specs.declared.Pending.{Pending}
@@ -28,6 +29,7 @@ module _ (ws : List ℕ) where
         → taken ≡ w 19
         → pending ≡ pending-of (w 14) place byte count address taken
         → record {
+          model = Lp2;
           form = record { lines = lines; spacing = spacing };
           job = job;
           pending = pending;

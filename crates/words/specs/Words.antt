@@ -1,12 +1,14 @@
--- The twenty words in which a caller keeps a state: lines, spacing, job, row, column; fresh, plotted, plotting, compressed, elongated, underscore,
+-- The twenty words in which a caller keeps a state of an LP2: lines, spacing, job, row, column; fresh, plotted, plotting, compressed, elongated, underscore,
 -- downloaded, each 0 or 1; the two words of the tabs; then what is pending.
 use Prim.Native.Nat.{ℕ, _≤_}
 use mathlib.Core.Bool.{Bool, true, cond, _&&_}
 use mathlib.Core.List.{List, [], _∷_}
 use lib.Dec.{eqb, leb}
 use lib.ListN.{drop, getD, length, take}
+use Rattle.sheet.specs.declared.Model.the-variants.{Lp2}
 use Rattle.sheet.specs.declared.Pitch.{Pitch}
 use Rattle.sheet.specs.declared.Pitch.the-variants.{Normal, Compressed}
+use Rattle.printer.specs.Machine.{limit}
 use Rattle.printer.specs.declared.Pending.{Pending}
 use Rattle.printer.specs.declared.Pending.the-variants.{Nothing, Escape, Tabs, Reset, Select, SelectLow, CountHigh, CountLow, AddressHigh, AddressLow, Payload}
 use Rattle.printer.specs.declared.Printer.{Printer}
@@ -70,10 +72,10 @@ part k n ws = take n (drop k ws)
 -- each number of a state has its range; one that has none but the word's own is a state's whatever it is
 unfoldable pub in-range : List ℕ → Bool
 in-range ws =
-    at-most 4294967295 (part 2 1 ws)
+    at-most limit (part 2 1 ws)
     && at-most 1 (part 5 7 ws)
     && at-most 10 (part 14 1 ws)
-    && at-most 4294967295 (part 15 1 ws)
+    && at-most limit (part 15 1 ws)
     && at-most 255 (part 16 1 ws)
     && at-most 65535 (part 17 3 ws)
 
@@ -104,6 +106,7 @@ unfoldable pub state-of : List ℕ → Printer
 state-of ws =
     let w : ℕ → ℕ = λ k. getD ws k 0 in
     record {
+      model = Lp2;
       form = record { lines = w 0; spacing = w 1 };
       job = w 2;
       pending = pending-of (w 14) (w 15) (w 16) (w 17) (w 18) (w 19);
@@ -115,13 +118,13 @@ state-of ws =
 -- what is pending is in range, as in every state that code can hold
 abbrev pub Ranged : Pending → Type 0
 Ranged Nothing = Unit {0}
-Ranged (Escape place) = place ≤ 4294967295
-Ranged (Tabs place) = place ≤ 4294967295
-Ranged (Reset place) = place ≤ 4294967295
-Ranged (Select place) = place ≤ 4294967295
-Ranged (SelectLow place high) = (place ≤ 4294967295) × (high ≤ 255)
-Ranged (CountHigh place) = place ≤ 4294967295
-Ranged (CountLow place high) = (place ≤ 4294967295) × (high ≤ 255)
-Ranged (AddressHigh place count) = (place ≤ 4294967295) × (count ≤ 65535)
-Ranged (AddressLow place count high) = (place ≤ 4294967295) × (count ≤ 65535) × (high ≤ 255)
-Ranged (Payload place l) = (place ≤ 4294967295) × (l .sum ≤ 255) × (l .count ≤ 65535) × (l .address ≤ 65535) × (l .taken ≤ 65535)
+Ranged (Escape place) = place ≤ limit
+Ranged (Tabs place) = place ≤ limit
+Ranged (Reset place) = place ≤ limit
+Ranged (Select place) = place ≤ limit
+Ranged (SelectLow place high) = (place ≤ limit) × (high ≤ 255)
+Ranged (CountHigh place) = place ≤ limit
+Ranged (CountLow place high) = (place ≤ limit) × (high ≤ 255)
+Ranged (AddressHigh place count) = (place ≤ limit) × (count ≤ 65535)
+Ranged (AddressLow place count high) = (place ≤ limit) × (count ≤ 65535) × (high ≤ 255)
+Ranged (Payload place l) = (place ≤ limit) × (l .sum ≤ 255) × (l .count ≤ 65535) × (l .address ≤ 65535) × (l .taken ≤ 65535)

@@ -4,15 +4,18 @@ ghost use mathlib.Core.Bool.{true};
 ghost use mathlib.Core.List.{[], _∷_, _++_};
 ghost use Prim.Native.Nat.{_+_, _≤_};
 ghost use lib.ListN.{length, take};
+ghost use Rattle.printer.specs.Machine.{limit};
 ghost use Rattle.words.specs.Words.{Ranged, at-most, in-range, is-state, part, pending-of, pending-words, pitch-of, pitch-word, state-of};
 ghost use Rattle.words.specs.Words.{state-size, state-words, truth};
 use printer::Head;
+use printer::JOB_LIMIT;
 use printer::Load;
 use printer::Pending;
 use printer::Printer;
 use printer::Style;
 use printer::TabSet;
 use sheet::Form;
+use sheet::Model;
 use sheet::Pitch;
 use sheet::counts::row;
 use sheet::counts::rows_above;
@@ -39,7 +42,7 @@ fn pitch_word(pitch: Pitch) -> u64
 fn six(state: &mut [u64], kind: u64, place: u32, byte: u8, count: u16, address: u16, taken: u16)
     requires { ⌜ length (now state) ≡ state-size ⌝ }
     ensures { λ _. ⌜ now (state .exit) ≡ take 14 (now (state .entry)) ++ (kind ∷ place ∷ byte ∷ count ∷ address ∷ taken ∷ []) ⌝ }
-    ensures { λ _. ⌜ (place ≤ 4294967295) × (byte ≤ 255) × (count ≤ 65535) × (address ≤ 65535) × (taken ≤ 65535) ⌝ }
+    ensures { λ _. ⌜ (place ≤ limit) × (byte ≤ 255) × (count ≤ 65535) × (address ≤ 65535) × (taken ≤ 65535) ⌝ }
 {
     state[14] = kind;
     state[15] = place as u64;
@@ -128,7 +131,7 @@ fn in_range(state: &[u64]) -> bool
     requires { ⌜ length (now state) ≡ state-size ⌝ }
     ensures { λ r. ⌜ r ≡ in-range (now (state .entry)) ⌝ }
 {
-    if !at_most(state, 2, 1, 4294967295) {
+    if !at_most(state, 2, 1, JOB_LIMIT as u64) {
         return false;
     }
     if !at_most(state, 5, 7, 1) {
@@ -137,7 +140,7 @@ fn in_range(state: &[u64]) -> bool
     if !at_most(state, 14, 1, 10) {
         return false;
     }
-    if !at_most(state, 15, 1, 4294967295) {
+    if !at_most(state, 15, 1, JOB_LIMIT as u64) {
         return false;
     }
     if !at_most(state, 16, 1, 255) {
@@ -165,7 +168,7 @@ fn size(word: u64) -> usize
 
 // A word as a place or a length in the job.
 fn place(word: u64) -> u32
-    requires { ⌜ word ≤ 4294967295 ⌝ }
+    requires { ⌜ word ≤ limit ⌝ }
     ensures { λ r. ⌜ r ≡ word ⌝ }
 {
     word as u32
@@ -256,6 +259,7 @@ pub fn state_of(state: &[u64]) -> Printer
         half(state[19]),
     );
     Printer {
+        model: Model::Lp2,
         form,
         job: place(state[2]),
         pending,

@@ -1,11 +1,13 @@
 -- `admit`: lines, spacing and lengths are tested in this order, and the first that is wrong is answered; what passes all is 0.
 mod Places
 use borrow.Author.Needs.{needs}
-use mathlib.Core.Bool.{and-eq-true-iff, true}
+use mathlib.Core.Bool.{true}
 use mathlib.Core.Path.{_≡_, ap, sym, _∙_}
-use borrow.Author.Tests.{leb-true, not-false, not-true}
-use lib.Dec.{leb}
-use Rattle.sheet.specs.Edition.{lp2}
+use native.Mathlib.Omega.{arith}
+use borrow.Author.Tests.{not-false, not-true}
+use Rattle.sheet.proofs.Editions.{described-bounded}
+use Rattle.sheet.proofs.Units.{lines-most}
+use Rattle.sheet.specs.Edition.{described}
 use Rattle.sheet.specs.Form.{lines-allowed, spacing-allowed}
 use Rattle.printer.specs.declared.Printer.{Printer}
 use Rattle.printer.specs.Given.{machine}
@@ -21,7 +23,7 @@ abbrev lent : tie.Start → Printer → Machine
 lent c p = let a = c .args in machine p (a .page .now) (a .line .now) (a .staging .now) (a .store .now)
 
 -- past the first test the lines are in range, past the second the spacing is
-lines-right : (c : tie.Else1) → lines-allowed lp2 (start-at-else1 c .args .lines) ≡ true
+lines-right : (c : tie.Else1) → lines-allowed (described (start-at-else1 c .args .model)) (start-at-else1 c .args .lines) ≡ true
 lines-right c = sym (c .before .lines-allowed .ensures) ∙ not-false (c .before .lines-allowed .result) (c .if1 .left)
 
 spacing-right : (c : tie.Else2) → spacing-allowed (start-at-else2 c .args .spacing) ≡ true
@@ -30,30 +32,30 @@ spacing-right c = sym (c .before .spacing-allowed .ensures) ∙ not-false (c .be
 returns : tie.Need-returns
 returns c p =
     ap (λ (o : Opening). o .answer)
-    (open-lines lp2 _ _ _ (lent (start-at-returns c) p)
+    (open-lines _ _ _ _ (lent (start-at-returns c) p)
     (sym (c .before .lines-allowed .ensures) ∙ not-true (c .before .lines-allowed .result) (c .if1 .taken)))
 
 returns-2 : tie.Need-returns-2
 returns-2 c p =
     ap (λ (o : Opening). o .answer)
-    (open-spacing lp2 _ _ _ (lent (start-at-returns-2 c) p) (lines-right (c .before .before))
+    (open-spacing _ _ _ _ (lent (start-at-returns-2 c) p) (lines-right (c .before .before))
     (sym (c .before .spacing-allowed .ensures) ∙ not-true (c .before .spacing-allowed .result) (c .if2 .taken)))
 
 fit-requires : tie.Need-fit-requires
-unfolding lines-allowed lp2
 fit-requires c κs =
-    let n = start-at-fit-requires c .args .lines in leb-true _ _ (and-eq-true-iff (leb 1 n) (leb n 99) .0 (lines-right (c .before .before)) .1)
+    let a = start-at-fit-requires c .args in
+    omega (arith, lines-most (described (a .model)) (a .lines) (lines-right (c .before .before)), described-bounded (a .model) .longest)
 
 returns-3 : tie.Need-returns-3
 returns-3 c p =
     ap (λ (o : Opening). o .answer)
-    (open-misfit lp2 _ _ _ (lent (start-at-returns-3 c) p) (lines-right (else1-at-returns-3 c)) (spacing-right (else2-at-returns-3 c))
+    (open-misfit _ _ _ _ (lent (start-at-returns-3 c) p) (lines-right (else1-at-returns-3 c)) (spacing-right (else2-at-returns-3 c))
     (fit-at-returns-3 c .fit .ensures p) (c .before .fitting .given .1))
 
 returns-4 : tie.Need-returns-4
 returns-4 c p =
     ap (λ (o : Opening). o .answer)
-    (open-done lp2 _ _ _ (lent (start-at-returns-4 c) p) (lines-right (else1-at-returns-4 c)) (spacing-right (else2-at-returns-4 c))
+    (open-done _ _ _ _ (lent (start-at-returns-4 c) p) (lines-right (else1-at-returns-4 c)) (spacing-right (else2-at-returns-4 c))
     (fit-at-returns-4 c .fit .ensures p) (c .enum-told .given .1))
 
 pub admit-spec : {M : Type 1} → statement M

@@ -7,10 +7,10 @@ use Rattle.listing.proofs.run.Tie as tie
 use Places.*
 
 same-length : tie.Need-same-length
-same-length c = list-all-at-same-length-2 c .list-all .kept .1 .0 ∙ open-at-same-length-2 c .«open» .kept .1 .1 .0
+same-length c = list-all-at-same-length-2 c .list-all .kept .1 .0 ∙ open-at-same-length-2 c .«open» .kept .1 .1 .1 .0
 
 same-length-2 : tie.Need-same-length-2
-same-length-2 c = list-all-at-same-length-2 c .list-all .kept .1 .1 .0 ∙ open-at-same-length-2 c .«open» .kept .1 .1 .1 .0
+same-length-2 c = list-all-at-same-length-2 c .list-all .kept .1 .1 .0 ∙ open-at-same-length-2 c .«open» .kept .1 .1 .1 .1 .0
 
 pub run-spec : {M : Type 1} → statement M
 run-spec =

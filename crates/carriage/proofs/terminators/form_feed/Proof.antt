@@ -10,7 +10,7 @@ use Places.*
 returns : tie.Need-returns
 returns c staging store =
     let a = start-at-returns c .args in
-    form-fed (machine (a .p) (a .page .now) (a .line .now) staging store) (top-at-returns c .top .ensures)
+    form-fed _ (machine (a .p) (a .page .now) (a .line .now) staging store) (top-at-returns c .top .ensures)
     (form-done-at-returns c .form-done .ensures staging store)
 
 pub form-feed-spec : {M : Type 1} → statement M

@@ -14,7 +14,7 @@ strike-requires c κs = rows-on-page (start-at-strike-requires c .pre)
 returns : tie.Need-returns
 returns c staging store =
     let a = start-at-returns c .args in let s = strike-at-returns c .strike in
-    done (machine (a .p) (a .page .now) (a .line .now) staging store) (c .quiet .ensures) (c .before .fresh .ensures) (s .ensures .0) (s .ensures .1)
+    done _ (machine (a .p) (a .page .now) (a .line .now) staging store) (c .quiet .ensures) (c .before .fresh .ensures) (s .ensures .0) (s .ensures .1)
 
 pub line-done-spec : {M : Type 1} → statement M
 line-done-spec =

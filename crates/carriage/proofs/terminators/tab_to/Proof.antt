@@ -16,17 +16,17 @@ first-row-requires-2 c κs = let k = subst Kept (c .before .lowest .given .1) (s
 
 returns : tie.Need-returns
 returns c staging store =
-    line-done-at-returns c .line-done .ensures staging store ∙ to-below _ _ (below-at-returns c .below .given .1) (first-row-at-returns c .first-row .ensures)
+    line-done-at-returns c .line-done .ensures staging store ∙ to-below _ _ _ (below-at-returns c .below .given .1) (first-row-at-returns c .first-row .ensures)
 
 returns-2 : tie.Need-returns-2
 returns-2 c staging store =
     form-done-at-returns-2 c .form-done .ensures staging store
-    ∙ to-lowest _ (enum-told-at-returns-2 c .enum-told .given .1) (lowest-at-returns-2 c .lowest .given .1) (first-row2-at-returns-2 c .first-row2 .ensures)
+    ∙ to-lowest _ _ (enum-told-at-returns-2 c .enum-told .given .1) (lowest-at-returns-2 c .lowest .given .1) (first-row2-at-returns-2 c .first-row2 .ensures)
 
 returns-3 : tie.Need-returns-3
 returns-3 c staging store =
     carriage-return-at-returns-3 c .carriage-return .ensures staging store
-    ∙ stays _ (enum-told-at-returns-3 c .enum-told .given .1) (enum-told2-at-returns-3 c .enum-told2 .given .1)
+    ∙ stays _ _ (enum-told-at-returns-3 c .enum-told .given .1) (enum-told2-at-returns-3 c .enum-told2 .given .1)
 
 pub tab-to-spec : {M : Type 1} → statement M
 tab-to-spec =

@@ -2,6 +2,7 @@
 mod Places
 use borrow.Author.Needs.{needs}
 use native.Mathlib.Omega.{arith}
+use Rattle.sheet.proofs.Editions.{described-bounded}
 use Rattle.printer.specs.Given.{machine}
 use Rattle.carriage.proofs.Rooms.{line-bound}
 use Rattle.carriage.proofs.Struck.{tabbed-to}
@@ -11,7 +12,9 @@ use Rattle.carriage.proofs.terminators.vertical_tab.Tie as tie
 use Places.*
 
 first-tab-requires : tie.Need-first-tab-requires
-first-tab-requires c κs = omega (arith, line-bound (start-at-first-tab-requires c .pre) (c .before .line-of .ensures), c .lines-through .ensures)
+first-tab-requires c κs =
+    let s = start-at-first-tab-requires c in
+    omega (arith, line-bound (s .pre) (c .before .line-of .ensures), described-bounded (s .args .p .model) .longest, c .lines-through .ensures)
 
 tab-to-requires : tie.Need-tab-to-requires
 tab-to-requires c κs =
@@ -20,7 +23,7 @@ tab-to-requires c κs =
 returns : tie.Need-returns
 returns c staging store =
     let a = start-at-returns c .args in
-    tabbed-to (machine (a .p) (a .page .now) (a .line .now) staging store)
+    tabbed-to _ (machine (a .p) (a .page .now) (a .line .now) staging store)
     (tab-to-at-returns c .tab-to .ensures staging store) (line-of-at-returns c .line-of .ensures)
     (below-current (a .p .tabs) (lines-through-at-returns c .lines-through .ensures) (first-tab-at-returns c .first-tab .ensures .0))
     (first-tab2-at-returns c .first-tab2 .ensures .0)

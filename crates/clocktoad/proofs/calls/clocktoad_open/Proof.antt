@@ -3,6 +3,7 @@
 mod Places
 use borrow.Author.Needs.{needs}
 use native.Mathlib.Omega.{arith}
+use Rattle.sheet.specs.declared.Model.the-variants.{Lp2}
 use Rattle.printer.specs.Machine.{shut}
 use Rattle.protocol.specs.Calls.{Opening}
 use Rattle.protocol.specs.Given.{given-opening}
@@ -16,21 +17,21 @@ lent s =
     let a = s .args in
     record { state = a .state .now; page = a .page .now; line = a .line .now; staging = a .staging .now; store = a .store .now; font = a .font .now }
 
--- what `open` gave back; its first two arguments are numbers
+-- what `open` gave back; its first three arguments are a model and two numbers
 abbrev opened : tie.After-open → Opening
-opened c = let m = c .«open» .last .1 .1 in given-opening (c .«open» .result) (m .0) (m .1 .0) (m .1 .1 .0) (m .1 .1 .1 .0)
+opened c = let m = c .«open» .last .1 .1 .1 in given-opening (c .«open» .result) (m .0) (m .1 .0) (m .1 .1 .0) (m .1 .1 .1 .0)
 
 returns : tie.Need-returns
 returns c =
     let s = start-at-returns c in
     open-unkept (s .args .lines) (s .args .spacing) (lent s) (λ q. omega (arith, then1-at-returns c .if1 .taken))
-    (c .refused-or .ensures) (c .before .admit .ensures shut)
+    (c .refused-or .ensures) (c .before .admit .ensures (shut Lp2))
 
 returns-2 : tie.Need-returns-2
 returns-2 c =
     let s = start-at-returns-2 c in
     let o = open-at-returns-2 c in
-    opens (s .args .lines) (s .args .spacing) (lent s) (opened o) (omega (arith, else1-at-returns-2 c .if1 .left)) (o .«open» .ensures shut)
+    opens (s .args .lines) (s .args .spacing) (lent s) (opened o) (omega (arith, else1-at-returns-2 c .if1 .left)) (o .«open» .ensures (shut Lp2))
     (c .before .before .before .put .ensures) (c .answer-number .ensures)
 
 pub clocktoad-open-spec : {M : Type 1} → statement M

@@ -1,5 +1,7 @@
 -- `entering::enter_glyph`: a cell of 20 columns where it is elongated, of 10 where it is not, has room for the glyph.
 mod Places
+use Prim.Native.Nat.{_*_}
+use mathlib.Core.Bool.{Bool}
 use mathlib.Core.Path.{ap, _∙_}
 use native.Mathlib.Omega.{arith}
 use borrow.Author.Needs.{needs}
@@ -10,11 +12,11 @@ use Places.*
 
 enter-wide-requires : tie.Need-enter-wide-requires
 unfolding cell
-enter-wide-requires c κs = omega (arith, start-at-enter-wide-requires c .pre .fits, ap cell (c .before .if1 .taken))
+enter-wide-requires c κs = omega (arith, ap (λ (e : Bool). start-at-enter-wide-requires c .args .stride * cell e) (c .before .if1 .taken))
 
 enter-narrow-requires : tie.Need-enter-narrow-requires
 unfolding cell
-enter-narrow-requires c κs = omega (arith, start-at-enter-narrow-requires c .pre .fits, ap cell (c .before .if1 .left))
+enter-narrow-requires c κs = omega (arith, ap (λ (e : Bool). start-at-enter-narrow-requires c .args .stride * cell e) (c .before .if1 .left))
 
 returns : tie.Need-returns
 unfolding enter-glyph

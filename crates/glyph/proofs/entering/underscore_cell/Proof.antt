@@ -1,5 +1,7 @@
 -- `entering::underscore_cell`: half the columns of a cell are ten where it is elongated, and five where it is not.
 mod Places
+use Prim.Native.Nat.{_*_}
+use mathlib.Core.Bool.{Bool}
 use mathlib.Core.Path.{ap, _∙_}
 use native.Mathlib.Omega.{arith}
 use borrow.Author.Needs.{needs}
@@ -10,11 +12,11 @@ use Places.*
 
 underscore-requires : tie.Need-underscore-requires
 unfolding cell
-underscore-requires c κs = omega (arith, c .before .before .before .pre, ap cell (c .before .if1 .taken))
+underscore-requires c κs = omega (arith, ap (λ (e : Bool). c .before .before .before .args .stride * cell e) (c .before .if1 .taken))
 
 underscore-requires-2 : tie.Need-underscore-requires-2
 unfolding cell
-underscore-requires-2 c κs = omega (arith, c .before .before .before .pre, ap cell (c .before .if1 .left))
+underscore-requires-2 c κs = omega (arith, ap (λ (e : Bool). c .before .before .before .args .stride * cell e) (c .before .if1 .left))
 
 returns : tie.Need-returns
 unfolding cell

@@ -4,11 +4,12 @@ mod Places
 use borrow.Author.Needs.{needs}
 use mathlib.Core.Bool.{true}
 use mathlib.Core.Path.{_≡_, sym, _∙_}
+use native.Mathlib.Omega.{arith}
 use borrow.Author.Tests.{not-false, not-true}
 use lib.ListN.{length}
-use Rattle.sheet.specs.Edition.{lp2}
+use Rattle.sheet.proofs.Editions.{described-bounded}
 use Rattle.printer.specs.Given.{machine}
-use Rattle.printer.specs.Machine.{Machine}
+use Rattle.printer.specs.Machine.{Machine, edition-of, store-size}
 use Rattle.printer.specs.Room.{Ready}
 use Rattle.printer.specs.Sound.{sound}
 use Rattle.printer.proofs.Soundness.{sound-facts}
@@ -25,33 +26,35 @@ abbrev fed-to : tie.Start → Machine
 fed-to c = let a = c .args in machine (a .p) (a .page .now) (a .line .now) (a .staging .now) (a .store .now)
 
 -- past the first test the state is sound
-is-sound : (c : tie.Else1) → sound lp2 (start-at-else1 c .args .p) ≡ true
+is-sound : (c : tie.Else1) → sound (edition-of (start-at-else1 c .args .p)) (start-at-else1 c .args .p) ≡ true
 is-sound c = sym (c .before .sound .ensures) ∙ not-false (c .before .sound .result) (c .if1 .left)
 
 -- where all fits, the machine is ready and the font has its length
-ready : (c : tie.After-enum-told) → Ready lp2 (fed-to (start-at-enum-told c)) × (length (start-at-enum-told c .args .font .now) ≡ 2048)
+ready : (c : tie.After-enum-told) → let s = start-at-enum-told c in
+    Ready (edition-of (s .args .p)) (fed-to s) × (length (s .args .font .now) ≡ store-size)
 ready c =
     let start = start-at-enum-told c in
-    let fits = right-fitting lp2 _ _ (fed-to start) (fit-at-enum-told c .fit .ensures (start .args .p)) (c .enum-told .given .1) in
-    (record { printer = sound-facts lp2 _ (is-sound (else1-at-enum-told c)); memory = fits .memory }, fits .font)
+    let fits = right-fitting _ _ _ (fed-to start) (fit-at-enum-told c .fit .ensures (start .args .p)) (c .enum-told .given .1) in
+    (record { printer = sound-facts _ _ (is-sound (else1-at-enum-told c)); memory = fits .memory }, fits .font)
 
 -- what the bytes come to
 abbrev taken : tie.After-take-bytes → Feeding
 taken c = let l = c .take-bytes .last .1 .1 in given-feeding (c .take-bytes .result) (l .0) (l .1 .0) (l .1 .1 .0) (l .1 .1 .1 .0)
 
 returns : tie.Need-returns
-returns c = feed-unsound lp2 _ _ _ (sym (c .before .sound .ensures) ∙ not-true (c .before .sound .result) (c .if1 .taken))
+returns c = feed-unsound _ _ _ _ (sym (c .before .sound .ensures) ∙ not-true (c .before .sound .result) (c .if1 .taken))
 
 fit-requires : tie.Need-fit-requires
-unfolding lp2
-fit-requires c κs = sound-facts lp2 _ (is-sound (else1-at-fit-requires c)) .form .most
+fit-requires c κs =
+    let p = start-at-fit-requires c .args .p in
+    omega (arith, sound-facts (edition-of p) p (is-sound (else1-at-fit-requires c)) .form .most, described-bounded (p .model) .longest)
 
 take-bytes-requires : tie.Need-take-bytes-requires
 take-bytes-requires c κs = ready (enum-told-at-take-bytes-requires c)
 
 returns-2 : tie.Need-returns-2
 returns-2 c =
-    feed-misfit lp2 _ _ (fed-to (start-at-returns-2 c)) (is-sound (else1-at-returns-2 c))
+    feed-misfit _ _ _ (fed-to (start-at-returns-2 c)) (is-sound (else1-at-returns-2 c))
     (c .before .before .before .fit .ensures (start-at-returns-2 c .args .p)) (c .before .fitting .given .1)
 
 returns-3 : tie.Need-returns-3

@@ -30,27 +30,27 @@ counted-requires c κs =
     omega (
       arith,
       start,
-      rest-fits (a .font .now) (a .piece .now) (a .taken) (fed-to start) (of-rest f) (omega (arith, then1-at-counted-requires c .if1)) (f .feed .ensures),
+      rest-fits _ (a .font .now) (a .piece .now) (a .taken) (fed-to start) (of-rest f) (omega (arith, then1-at-counted-requires c .if1)) (f .feed .ensures),
     )
 
 returns : tie.Need-returns
 returns c =
     let f = feed-at-returns c in
     let start = start-at-returns c in
-    simp (c .counted .ensures) (rest-offered (start .args .font .now) _ (start .args .taken) (fed-to start) (of-rest f) (f .feed .ensures))
+    simp (c .counted .ensures) (rest-offered _ (start .args .font .now) _ (start .args .taken) (fed-to start) (of-rest f) (f .feed .ensures))
 
 counted-requires-2 : tie.Need-counted-requires-2
 counted-requires-2 c κs =
     let f = feed2-at-counted-requires-2 c in
     let start = start-at-counted-requires-2 c in
-    omega (arith, start, none-taken (start .args .font .now) (start .args .piece .now) (start .args .taken) (fed-to start) (of-nothing f) (f .feed2 .ensures))
+    omega (arith, start, none-taken _ (start .args .font .now) (start .args .piece .now) (start .args .taken) (fed-to start) (of-nothing f) (f .feed2 .ensures))
 
 returns-2 : tie.Need-returns-2
 returns-2 c =
     let f = feed2-at-returns-2 c in
     let start = start-at-returns-2 c in
     simp (c .counted2 .ensures)
-    (none-offered (start .args .font .now) _ (start .args .taken) (fed-to start) (of-nothing f) (else1-at-returns-2 c .if1 .left) (f .feed2 .ensures))
+    (none-offered _ (start .args .font .now) _ (start .args .taken) (fed-to start) (of-nothing f) (else1-at-returns-2 c .if1 .left) (f .feed2 .ensures))
 
 pub offer-spec : {M : Type 1} → statement M
 offer-spec =

@@ -2,7 +2,6 @@
 mod Places
 use borrow.Author.Needs.{needs}
 use mathlib.Core.Path.{_≡_, ap, sym, _∙_}
-use Rattle.sheet.specs.Edition.{lp2}
 use Rattle.printer.specs.declared.Printer.{Printer}
 use Rattle.printer.specs.Given.{machine}
 use Rattle.printer.specs.Machine.{Machine, shut}
@@ -20,27 +19,27 @@ abbrev lent : tie.Start → Printer → Machine
 lent c p = let a = c .args in machine p (a .page .now) (a .line .now) (a .staging .now) (a .store .now)
 
 -- a refused opening, over the memory as it was lent
-shut-with : (c : tie.Start) {o : Opened} {answer : Answer} → o ≡ record { printer = shut; answer = answer }
-    → let a = c .args in given-opening o (a .page .now) (a .line .now) (a .staging .now) (a .store .now) ≡ unopened answer (lent c shut)
+shut-with : (c : tie.Start) {o : Opened} {answer : Answer} → o ≡ record { printer = shut (c .args .model); answer = answer }
+    → let a = c .args in given-opening o (a .page .now) (a .line .now) (a .staging .now) (a .store .now) ≡ unopened (a .model) answer (lent c (shut (a .model)))
 shut-with c q = let a = c .args in ap (λ (o : Opened). given-opening o (a .page .now) (a .line .now) (a .staging .now) (a .store .now)) q
 
 -- past the test all fits
 fits : (c : tie.Else1) (p : Printer) → let s = start-at-else1 c in
-    Admitted lp2 (s .args .lines) (s .args .spacing) (s .args .font .now) (lent s p)
+    Admitted (s .args .model) (s .args .lines) (s .args .spacing) (s .args .font .now) (lent s p)
 fits c p =
     let s = start-at-else1 c in
-    open-admitted lp2 (s .args .lines) (s .args .spacing) (s .args .font .now) (lent s p)
+    open-admitted (s .args .model) (s .args .lines) (s .args .spacing) (s .args .font .now) (lent s p)
     (admit-at-else1 c .admit .ensures p) (sym (c .before .refusal .ensures) ∙ c .if1 .left)
 
 returns : tie.Need-returns
 returns c p =
     let s = start-at-returns c in
     shut-with s (c .unopened .ensures)
-    ∙ open-refused lp2 (s .args .lines) (s .args .spacing) (s .args .font .now) (lent s p)
+    ∙ open-refused (s .args .model) (s .args .lines) (s .args .spacing) (s .args .font .now) (lent s p)
     (admit-at-returns c .admit .ensures p) (sym (c .before .before .refusal .ensures) ∙ c .before .if1 .taken)
 
 start-requires : tie.Need-start-requires
-start-requires c κs = fits (else1-at-start-requires c) shut .memory
+start-requires c κs = fits (else1-at-start-requires c) (shut (start-at-start-requires c .args .model)) .memory
 
 returns-2 : tie.Need-returns-2
 returns-2 c p = after-start-at-returns-2 c .start .ensures ∙ fits (else1-at-returns-2 c) p .opens

@@ -2,7 +2,7 @@
 mod Places
 use borrow.Author.Needs.{needs}
 use mathlib.Core.Path.{_∙_}
-use Rattle.sheet.specs.Edition.{lp2}
+use Rattle.sheet.specs.Edition.{described}
 use Rattle.sheet.proofs.Emptying.{line-emptied, page-emptied}
 use Rattle.printer.proofs.Ready.{store-emptied}
 use Rattle.job.proofs.calls.start.Statement.{statement}
@@ -10,13 +10,12 @@ use Rattle.job.proofs.calls.start.Tie as tie
 use Places.*
 
 returns : tie.Need-returns
-unfolding lp2
 returns c =
     let a = start-at-returns c .args in
     simp (
       c .new-printer .ensures,
-      blank-at-returns c .blank .ensures ∙ page-emptied lp2 (a .form) (a .page .now) (start-at-returns c .pre .page),
-      empty-at-returns c .empty .ensures ∙ line-emptied lp2 (a .line .now) (start-at-returns c .pre .line),
+      blank-at-returns c .blank .ensures ∙ page-emptied (described (a .model)) (a .form) (a .page .now) (start-at-returns c .pre .page),
+      empty-at-returns c .empty .ensures ∙ line-emptied (described (a .model)) (a .line .now) (start-at-returns c .pre .line),
       blank2-at-returns c .blank2 .ensures ∙ store-emptied (a .staging .now) (start-at-returns c .pre .staging),
       c .before .before .before .blank3 .ensures ∙ store-emptied (a .store .now) (start-at-returns c .pre .store),
     )

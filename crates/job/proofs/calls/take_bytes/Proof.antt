@@ -9,21 +9,20 @@ use mathlib.Core.Path.{_≡_, refl, sym, _∙_}
 use native.Mathlib.Omega.{arith}
 use borrow.Author.Tests.{not-false, not-true}
 use lib.ListN.{length}
-use Rattle.sheet.specs.Edition.{lp2}
+use Rattle.sheet.proofs.Editions.{described-proper}
 use Rattle.printer.specs.declared.Printer.{Printer}
 use Rattle.printer.specs.Given.{given, machine}
-use Rattle.printer.specs.Machine.{Machine}
+use Rattle.printer.specs.Machine.{Machine, edition-of, limit}
 use Rattle.printer.specs.Steps.{Step}
-use Rattle.protocol.specs.Calls.{limit}
 use Rattle.protocol.proofs.Taking.{ready-room}
 use Rattle.runs.proofs.Leading.{run-leads}
-use Rattle.job.proofs.Underway.{Underway, after-run, after-step, at-limit, at-start, told, used-up, writable}
+use Rattle.job.proofs.Underway.{Underway, after-run, after-step, at-limit, at-start, ready-here, told, used-up, writable}
 use Rattle.job.proofs.calls.take_bytes.Statement.{statement}
 use Rattle.job.proofs.calls.take_bytes.Tie as tie
 use Places.*
 
 record Inv (font piece page₀ line₀ staging₀ store₀ page line staging store : List ℕ) (q₀ q : Printer) (i : ℕ) : Type 0 where
-  pub underway : Underway font piece (machine q₀ page₀ line₀ staging₀ store₀) (machine q page line staging store) i
+  pub underway : Underway (edition-of q₀) font piece (machine q₀ page₀ line₀ staging₀ store₀) (machine q page line staging store) i
   pub page-kept : length page ≡ length page₀
   pub line-kept : length line ≡ length line₀
   pub staging-kept : length staging ≡ length staging₀
@@ -53,9 +52,9 @@ abbrev so-far : tie.After-run Inv-loop μ-loop → ℕ
 so-far c = loop-at-run c .loop .i + c .run .result .taken
 
 -- the run leads on, and lengths stay
-ran : (c : tie.After-run Inv-loop μ-loop)
-    → Underway (start-at-run c .args .font .now) (start-at-run c .args .piece .now) (first (start-at-run c)) (ran-to c) (so-far c)
-ran c = after-run (loop-at-run c .loop .inv .underway) (run-leads lp2 _ (c .run .ensures (loop-at-run c .loop .page)))
+ran : (c : tie.After-run Inv-loop μ-loop) → let s = start-at-run c in
+    Underway (edition-of (s .args .p)) (s .args .font .now) (s .args .piece .now) (first s) (ran-to c) (so-far c)
+ran c = after-run (loop-at-run c .loop .inv .underway) (run-leads (edition-of (loop-at-run c .loop .q)) _ (c .run .ensures (loop-at-run c .loop .page)))
 
 line-ran : (c : tie.After-run Inv-loop μ-loop) → length (ran-to c .line) ≡ length (start-at-run c .args .line .now)
 line-ran c = c .run .kept .1 .1 .0 ∙ loop-at-run c .loop .inv .line-kept
@@ -88,7 +87,8 @@ loop-holds c =
     record { underway = at-start (start-at-loop-holds c .pre .0); page-kept = refl; line-kept = refl; staging-kept = refl; store-kept = refl }
 
 run-requires : tie.Need-run-requires Inv-loop μ-loop
-run-requires c κs = writable (loop-at-run-requires c .loop .inv .underway .ready) (start-at-run-requires c .pre .1)
+run-requires c κs =
+    let l = loop-at-run-requires c .loop in writable (described-proper (l .q .model)) (ready-here (l .inv .underway)) (start-at-run-requires c .pre .1)
 
 add-at : tie.Need-add-at Inv-loop μ-loop
 add-at c = omega (arith, ran (run-at-add-at c) .within, start-at-add-at c)
@@ -129,7 +129,9 @@ shared-slice-read-step : tie.Need-shared-slice-read-step Inv-loop μ-loop
 shared-slice-read-step c = more (c .before .before .before)
 
 step-requires : tie.Need-step-requires Inv-loop μ-loop
-step-requires c κs = (ready-room (ran (run-at-step-requires c) .ready) (start-at-step-requires c .pre .1), room (else2-at-step-requires c))
+step-requires c κs =
+    let r = run-at-step-requires c in
+    (ready-room (described-proper (ran-to r .printer .model)) (ready-here (ran r)) (start-at-step-requires c .pre .1), room (else2-at-step-requires c))
 
 answer-to-requires : tie.Need-answer-to-requires Inv-loop μ-loop
 answer-to-requires c κs = omega (arith, more (else1-at-answer-to-requires c), start-at-answer-to-requires c)

@@ -1,11 +1,13 @@
 -- `bytes::act`: each arm knows what is pending, and what it calls is the rule for that.
 mod Places
+use mathlib.Core.Path.{_≡_, subst, sym}
 use borrow.Author.Needs.{needs}
-use Rattle.sheet.specs.Edition.{lp2}
+use lib.ListN.{length}
 use Rattle.printer.specs.declared.Pending.{Pending}
+use Rattle.printer.specs.declared.Printer.{Printer}
 use Rattle.printer.specs.Bytes.{act}
 use Rattle.printer.specs.Given.{machine}
-use Rattle.printer.specs.Machine.{Machine}
+use Rattle.printer.specs.Machine.{Machine, edition-of}
 use Rattle.printer.specs.Steps.{Step}
 use Rattle.reader.proofs.Acting.{acted, addresses, counts, resets, selects}
 use Rattle.reader.proofs.bytes.act.Statement.{statement}
@@ -18,7 +20,16 @@ lent c = let a = c .args in machine (a .p) (a .page .now) (a .line .now) (a .sta
 
 -- what document 01 makes of the byte, by what is pending
 abbrev acts : tie.Start → Pending → Step
-acts c q = act lp2 (c .args .font .now) q (c .args .b) (c .args .here) (lent c)
+acts c q = act (edition-of (c .args .p)) (c .args .font .now) q (c .args .b) (c .args .here) (lent c)
+
+-- the state with nothing pending has the line store that it had
+reset-requires : tie.Need-reset-requires
+reset-requires c κs =
+    let s = start-at-reset-requires c in (
+      subst (λ (q : Printer). length (s .args .line .now) ≡ edition-of q .columns) (sym (with-pending-at-reset-requires c .with-pending .ensures))
+          (s .pre .line),
+      s .pre .store,
+    )
 
 returns : tie.Need-returns
 unfolding act
@@ -81,7 +92,7 @@ pub act-spec : {M : Type 1} → statement M
 act-spec =
     tie.close
     (tie.spec (λ c. search needs) (λ c κs. search needs) (λ c. search needs) (λ c κs. search needs) (λ c. search needs) (λ c κs. search needs)
-    (λ c. search needs) (λ c κs. search needs) (λ c κs. search needs) (λ c. search needs) (λ c κs. search needs) (λ c. search needs)
+    (λ c. search needs) (λ c κs. search needs) reset-requires (λ c. search needs) (λ c κs. search needs) (λ c. search needs)
     (λ c κs. search needs) (λ c κs. search needs) (λ c. search needs) (λ c κs. search needs) (λ c. search needs) (λ c κs. search needs)
     (λ c κs. search needs) (λ c. search needs) (λ c κs. search needs) (λ c. search needs) (λ c κs. search needs) (λ c κs. search needs)
     (λ c. search needs) (λ c κs. search needs) (λ c. search needs) (λ c. search needs) (λ c. search needs) returns (λ c. search needs) returns-2

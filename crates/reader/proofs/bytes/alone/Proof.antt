@@ -2,6 +2,9 @@
 mod Places
 use borrow.Author.Needs.{needs}
 use Rattle.printer.specs.Alone.{alone}
+use Rattle.printer.specs.Given.{machine}
+use Rattle.printer.specs.Machine.{edition-of}
+use Rattle.printer.specs.Plotting.{plot-byte}
 use Rattle.state.proofs.Tests.{unless, when}
 use Rattle.reader.proofs.bytes.alone.Statement.{statement}
 use Rattle.reader.proofs.bytes.alone.Tie as tie
@@ -11,7 +14,8 @@ returns : tie.Need-returns
 unfolding alone
 returns c staging =
     let a = start-at-returns c .args in
-    when _ (then1-at-returns c .if1 .taken) (c .before .before .plot-byte .ensures (a .page .now) staging (a .store .now))
+    when {a = plot-byte (edition-of (a .p)) (a .b) (a .place) (machine (a .p) (a .page .now) (a .line .now) staging (a .store .now))} _
+    (then1-at-returns c .if1 .taken) (c .before .before .plot-byte .ensures (a .page .now) staging (a .store .now))
 
 returns-2 : tie.Need-returns-2
 unfolding alone

@@ -7,10 +7,9 @@ use mathlib.Core.Logic.{inl, inr}
 use mathlib.Core.Bool.{true, false}
 use mathlib.Core.Path.{_≡_, sym, _∙_}
 use native.Mathlib.Omega.{arith}
-use Rattle.sheet.specs.Edition.{lp2}
 use Rattle.printer.specs.Alone.{prints, text-byte}
 use Rattle.printer.specs.Given.{machine}
-use Rattle.printer.specs.Machine.{Machine}
+use Rattle.printer.specs.Machine.{Machine, edition-of}
 use Rattle.printer.specs.Steps.{Step}
 use Rattle.reader.proofs.Acting.{acted}
 use Rattle.reader.proofs.TextBytes.{does-nothing, high, printing, printing-low, unnamed}
@@ -24,7 +23,7 @@ lent c staging = let a = c .args in machine (a .p) (a .page .now) (a .line .now)
 
 -- what document 01 makes of a byte there
 abbrev acts : tie.Start → List ℕ → ℕ → Step
-acts c staging b = text-byte lp2 (c .args .font .now) b (c .args .place) (lent c staging)
+acts c staging b = text-byte (edition-of (c .args .p)) (c .args .font .now) b (c .args .place) (lent c staging)
 
 -- past the first test the byte does not print
 silent : (c : tie.Else1) → prints (start-at-else1 c .args .b) ≡ false
@@ -40,13 +39,13 @@ print-requires c κs = (start-at-print-requires c .pre .1, printing-low _ (print
 returns : tie.Need-returns
 returns c staging =
     let a = start-at-returns c .args in
-    printing lp2 (a .font .now) (a .b) (a .place) (lent (start-at-returns c) staging) (printed (then1-at-returns c))
+    printing _ (a .font .now) (a .b) (a .place) (lent (start-at-returns c) staging) (printed (then1-at-returns c))
     (c .before .before .print .ensures (a .page .now) staging)
 
 returns-2 : tie.Need-returns-2
 returns-2 c staging =
     let a = start-at-returns-2 c .args in
-    does-nothing lp2 (a .font .now) (a .b) (a .place) (lent (start-at-returns-2 c) staging) (c .quiet .ensures) (c .before .match .keys1)
+    does-nothing _ (a .font .now) (a .b) (a .place) (lent (start-at-returns-2 c) staging) (c .quiet .ensures) (c .before .match .keys1)
 
 returns-3 : tie.Need-returns-3
 unfolding prints text-byte
@@ -75,7 +74,7 @@ returns-6 c staging =
 returns-7 : tie.Need-returns-7
 returns-7 c staging =
     let a = start-at-returns-7 c .args in let none = c .before .before .match .rest in
-    unnamed lp2 (a .font .now) (a .b) (a .place) (lent (start-at-returns-7 c) staging) (silent (c .before .before .before)) (c .noted .ensures)
+    unnamed _ (a .font .now) (a .b) (a .place) (lent (start-at-returns-7 c) staging) (silent (c .before .before .before)) (c .noted .ensures)
     (omega (arith, c .before .if2 .taken)) (λ q. none .0 .0 .0 .0 .1 (inl q)) (λ q. none .0 .0 .0 .0 .1 (inr (inl q))) (λ q. none .0 .0 .0 .0 .1 (inr (inr q)))
     (none .0 .0 .0 .1) (none .0 .0 .1) (none .0 .1) (none .1)
 
@@ -83,7 +82,7 @@ returns-8 : tie.Need-returns-8
 returns-8 c staging =
     let a = start-at-returns-8 c .args in
     let n : a .b ≡ 127 → ⊥ = λ q. c .before .before .match .rest .0 .0 .0 .0 .1 (inr (inr q)) in
-    high lp2 (a .font .now) (a .b) (a .place) (lent (start-at-returns-8 c) staging) (silent (c .before .before .before)) (c .noted2 .ensures)
+    high _ (a .font .now) (a .b) (a .place) (lent (start-at-returns-8 c) staging) (silent (c .before .before .before)) (c .noted2 .ensures)
     (omega (arith, c .before .if2 .left))
 
 pub text-byte-spec : {M : Type 1} → statement M

@@ -6,11 +6,10 @@ use mathlib.Core.List.{List}
 use mathlib.Core.Path.{_≡_, refl, sym, _∙_}
 use native.Mathlib.Omega.{arith}
 use lib.ListN.{length}
-use Rattle.sheet.specs.Edition.{lp2}
 use Rattle.printer.specs.declared.Load.{Load}
 use Rattle.printer.specs.declared.Printer.{Printer}
 use Rattle.printer.specs.Given.{machine}
-use Rattle.protocol.specs.Calls.{limit}
+use Rattle.printer.specs.Machine.{edition-of, limit}
 use Rattle.runs.specs.Runs.{loading}
 use Rattle.runs.proofs.Running.{Runs, Taken, another-byte, none-taken, one-more, room-for-it, runs-over}
 use Rattle.runs.proofs.Staged.{begins, staged-on, staged-out}
@@ -23,7 +22,7 @@ record Inv (piece staging₀ staging : List ℕ) (p : Printer) (place n : ℕ) (
   pub taken : Taken n k (p .job) job
   pub kept : length staging ≡ length staging₀
   pub runs : (font page line store : List ℕ)
-      → Runs lp2 font piece k (machine p page line staging₀ store) (machine (loading place l job p) page line staging store)
+      → Runs (edition-of p) font piece k (machine p page line staging₀ store) (machine (loading place l job p) page line staging store)
 
 abbrev Inv-loop : tie.InvT-loop
 Inv-loop p place piece n staging₀ l₀ job₀ k₀ staging l job k = Inv piece staging₀ staging p place n l job k
@@ -37,7 +36,7 @@ loop-holds c =
     record {
       taken = none-taken _ _;
       kept = refl;
-      runs = λ font page line store. begins (s .args .place) (s .args .p) font _ page line store _ _ (s .pre .0);
+      runs = λ font page line store. begins (edition-of (s .args .p)) (s .args .place) (s .args .p) font _ page line store _ _ (s .pre .0);
     }
 
 inside : (c : tie.In-loop Inv-loop μ-loop) → c .before .loop .k < length (start-at-in-loop c .args .piece .now)
@@ -51,7 +50,7 @@ returns c font page line store =
     let s = start-at-returns c in
     let l = loop-at-returns c .loop in
     rw (c .staged .ensures)
-    (sym (staged-out (s .args .place) (s .args .p) font (s .args .piece .now) page line store (l .l) (l .job) (l .staging)
+    (sym (staged-out _ (s .args .place) (s .args .p) font (s .args .piece .now) page line store (l .l) (l .job) (l .staging)
     (l .inv .runs font page line store) (inside (in-loop-at-returns c)) (c .before .if1 .taken)))
 
 loop-again : tie.Need-loop-again Inv-loop μ-loop
@@ -62,7 +61,7 @@ loop-again c =
     record {
       taken = one-more (l .inv .taken) (i .loop-test .taken);
       kept = c .before .before .before .stage .kept .0 ∙ l .inv .kept;
-      runs = λ font page line store. staged-on (s .args .place) (s .args .p) font (s .args .piece .now) page line store (l .l) (l .job)
+      runs = λ font page line store. staged-on _ (s .args .place) (s .args .p) font (s .args .piece .now) page line store (l .l) (l .job)
           (l .staging) (l .inv .runs font page line store) (inside i) (room i) (else1-at-loop-again c .if1 .left)
           (c .before .before .before .stage .ensures) (c .loaded .ensures);
     }

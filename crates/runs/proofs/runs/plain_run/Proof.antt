@@ -1,7 +1,6 @@
 -- `runs::plain_run`: columns in plot mode, characters outside it; on a plot line that plot mode has left, no run.
 mod Places
 use borrow.Author.Needs.{needs}
-use Rattle.sheet.specs.Edition.{lp2}
 use Rattle.printer.specs.Given.{machine}
 use Rattle.runs.specs.Runs.{goes-on}
 use Rattle.runs.proofs.Running.{between}
@@ -17,7 +16,7 @@ returns-2 : tie.Need-returns-2
 unfolding goes-on
 returns-2 c page staging =
     let a = start-at-returns-2 c .args in
-    between lp2 (a .font .now) (a .piece .now) (machine (a .p) page (a .line .now) staging (a .store .now)) (start-at-returns-2 c .pre .0)
+    between _ (a .font .now) (a .piece .now) (machine (a .p) page (a .line .now) staging (a .store .now)) (start-at-returns-2 c .pre .0)
     (λ b. simp (c .before .before .if1 .left, c .before .if2 .taken)) (c .none .ensures)
 
 pub plain-run-spec : {M : Type 1} → statement M

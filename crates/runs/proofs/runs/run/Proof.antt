@@ -5,10 +5,9 @@ use Prim.Native.Nat.{ℕ}
 use mathlib.Core.List.{List}
 use mathlib.Core.Bool.{false}
 use mathlib.Core.Path.{_≡_, refl}
-use Rattle.sheet.specs.Edition.{lp2}
 use Rattle.printer.specs.declared.Pending.{Pending}
 use Rattle.printer.specs.Given.{machine}
-use Rattle.printer.specs.Machine.{Machine}
+use Rattle.printer.specs.Machine.{Machine, edition-of}
 use Rattle.runs.specs.declared.Ran.{Ran}
 use Rattle.runs.specs.Runs.{given-run, goes-on, running}
 use Rattle.runs.proofs.Running.{between}
@@ -27,10 +26,11 @@ returns-2 : tie.Need-returns-2
 returns-2 c page = let a = start-at-returns-2 c .args in c .before .before .payload-run .ensures (a .font .now) page (a .line .now) (a .store .now)
 
 -- a command between its bytes
-idle : (s : tie.Start) (page : List ℕ) {q : Pending} {r : Ran} → s .args .p .pending ≡ q → ((b : ℕ) → goes-on lp2 b q (s .args .p) ≡ false)
+idle : (s : tie.Start) (page : List ℕ) {q : Pending} {r : Ran} → s .args .p .pending ≡ q
+    → ((b : ℕ) → goes-on (edition-of (s .args .p)) b q (s .args .p) ≡ false)
     → r ≡ record { printer = s .args .p; taken = 0 } → let a = s .args in
-    given-run r page (a .line .now) (a .staging .now) (a .store .now) ≡ running lp2 (a .font .now) (a .piece .now) (lent s page)
-idle s page = between lp2 (s .args .font .now) (s .args .piece .now) (lent s page)
+    given-run r page (a .line .now) (a .staging .now) (a .store .now) ≡ running (edition-of (a .p)) (a .font .now) (a .piece .now) (lent s page)
+idle s page = between _ (s .args .font .now) (s .args .piece .now) (lent s page)
 
 returns-3 : tie.Need-returns-3
 unfolding goes-on

@@ -1,23 +1,28 @@
 -- `sizes::page_size`: the form is one where both tests hold, and there is no page where one fails.
+mod Places
 use borrow.Author.Needs.{needs}
-use mathlib.Core.Bool.{and-eq-true-iff, true}
+use mathlib.Core.Bool.{true}
 use mathlib.Core.Path.{_≡_, sym, _∙_}
 use Prim.Native.Nat.{_≤_}
-use borrow.Author.Tests.{leb-true, not-false, not-true}
-use lib.Dec.{leb}
-use Rattle.sheet.specs.Edition.{lp2}
+use native.Mathlib.Omega.{arith}
+use borrow.Author.Tests.{not-false, not-true}
+use Rattle.sheet.specs.Edition.{described}
 use Rattle.sheet.specs.Form.{lines-allowed}
-use Rattle.sheet.proofs.Units.{lines-refused, spacing-refused, page-sized, page-bytes-most}
+use Rattle.sheet.proofs.Editions.{described-bounded}
+use Rattle.sheet.proofs.Units.{lines-most, lines-refused, spacing-refused, page-sized, page-bytes-most}
 use Rattle.sheet.proofs.sizes.page_size.Statement.{statement}
 use Rattle.sheet.proofs.sizes.page_size.Tie as tie
+use Places.*
 
 -- the lines are in range after the first test
-lines-right : (c : tie.Else1) → lines-allowed lp2 (c .before .before .args .lines) ≡ true
+lines-right : (c : tie.Else1) → let a = c .before .before .args in lines-allowed (described (a .model)) (a .lines) ≡ true
 lines-right c = sym (c .before .lines-allowed .ensures) ∙ not-false _ (c .if1 .left)
 
-most : (c : tie.Else1) → c .before .before .args .lines ≤ 99
-unfolding lines-allowed lp2
-most c = leb-true _ 99 (and-eq-true-iff (leb 1 (c .before .before .args .lines)) (leb (c .before .before .args .lines) 99) .0 (lines-right c) .1)
+-- and so no more than the longest form's of either model
+most : (c : tie.Else1) → c .before .before .args .lines ≤ 112
+most c =
+    let a = c .before .before .args in
+    omega (arith, lines-most (described (a .model)) (a .lines) (lines-right c), described-bounded (a .model) .longest)
 
 returns : tie.Need-returns
 returns c = (lines-refused _ _ _ (sym (c .before .lines-allowed .ensures) ∙ not-true _ (c .if1 .taken)), search needs)
@@ -30,7 +35,8 @@ returns-3 : tie.Need-returns-3
 returns-3 c =
     let on = c .before .before .before in
     let spacing-right = sym (c .before .before .spacing-allowed .ensures) ∙ not-false _ (c .before .if2 .left) in
-    (c .page-bytes .ensures ∙ page-sized _ _ _ (lines-right on) spacing-right, rw (c .page-bytes .ensures) (page-bytes-most _ (most on)))
+    let row = described-bounded (start-at-returns-3 c .args .model) .bytes in
+    (c .page-bytes .ensures ∙ page-sized _ _ _ (lines-right on) spacing-right, rw (c .page-bytes .ensures) (page-bytes-most _ _ row (most on)))
 
 pub page-size-spec : {M : Type 1} → statement M
 page-size-spec =

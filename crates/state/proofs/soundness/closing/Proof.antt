@@ -2,7 +2,7 @@
 mod Places
 use borrow.Author.Needs.{needs}
 use mathlib.Core.Path.{_≡_, ap, sym, _∙_}
-use Rattle.sheet.specs.Edition.{lp2}
+use Rattle.printer.specs.Machine.{edition-of}
 use Rattle.printer.specs.declared.Begun.{Begun}
 use Rattle.printer.specs.Closing.{closing, close-command, close-line}
 use Rattle.state.proofs.Closed.{closed}
@@ -17,8 +17,8 @@ returns c = rw (failed (c .before .sound .ensures) (c .if1 .taken))
 
 -- where a sound state's command began is known
 began : (c : tie.After-begun) {b : Begun} → c .begun .result ≡ b
-    → closing lp2 (start-at-begun c .args .p) ≡ close-command b (start-at-begun c .args .p .head .fresh)
-began c k = closed (start-at-begun c .args .p) (passed (c .before .before .sound .ensures) (c .before .if1 .left)) (sym (c .begun .ensures) ∙ k)
+    → closing (edition-of (start-at-begun c .args .p)) (start-at-begun c .args .p) ≡ close-command b (start-at-begun c .args .p .head .fresh)
+began c k = closed _ (start-at-begun c .args .p) (passed (c .before .before .sound .ensures) (c .before .if1 .left)) (sym (c .begun .ensures) ∙ k)
 
 returns-2 : tie.Need-returns-2
 unfolding close-command

@@ -4,10 +4,12 @@ use borrow.Author.Needs.{needs}
 use mathlib.Core.Bool.{Bool, and-eq-true-iff, true, _&&_}
 use mathlib.Core.Path.{_≡_, ap, refl, sym, _∙_}
 use native.Mathlib.Omega.{arith}
-use borrow.Author.Tests.{le-leb, leb-true, lt-leb}
+use borrow.Author.Tests.{le-leb, lt-leb}
 use lib.Dec.{leb}
-use Rattle.sheet.specs.Edition.{lp2}
+use Rattle.sheet.proofs.Editions.{described-bounded}
+use Rattle.sheet.proofs.Units.{lines-most}
 use Rattle.sheet.specs.Form.{fits, lines-allowed, spacing-allowed}
+use Rattle.printer.specs.Machine.{edition-of}
 use Rattle.printer.specs.declared.Printer.{Printer}
 use Rattle.printer.specs.Sound.{begun, form-sound, fresh-sound, load-sound, place-sound, sound, tabs-sound}
 use Rattle.printer.specs.Tabs.{line-tabs}
@@ -18,13 +20,13 @@ use Places.*
 
 -- the tests, and how far they are true: a fact for the place behind each
 abbrev tests1 : Printer → Bool
-tests1 p = form-sound lp2 (p .form)
+tests1 p = form-sound (edition-of p) (p .form)
 
 abbrev tests2 : Printer → Bool
 tests2 p = tests1 p && fits (p .form) (p .head .row)
 
 abbrev tests3 : Printer → Bool
-tests3 p = tests2 p && leb (p .head .column) (lp2 .width (p .style .pitch))
+tests3 p = tests2 p && leb (p .head .column) (edition-of p .width (p .style .pitch))
 
 abbrev tests4 : Printer → Bool
 tests4 p = tests3 p && tabs-sound (p .form) (line-tabs (p .tabs))
@@ -48,7 +50,7 @@ held3 : (c : tie.Else3) → tests3 (start-at-else3 c .args .p) ≡ true
 held3 c =
     let p = start-at-else3 c .args .p in
     decides (held2 (c .before .before .before))
-    (le-leb (p .head .column) (lp2 .width (p .style .pitch)) (omega (arith, c .if3 .left, c .before .before .width .ensures)))
+    (le-leb (p .head .column) (edition-of p .width (p .style .pitch)) (omega (arith, c .if3 .left, c .before .before .width .ensures)))
 
 held4 : (c : tie.Else4) → tests4 (start-at-else4 c .args .p) ≡ true
 held4 c = decides (held3 (c .before .before)) (passed (c .before .tabs-sound .ensures) (c .if4 .left))
@@ -72,11 +74,11 @@ unfolding sound
 returns c = rw (failed (c .before .form-sound .ensures) (c .if1 .taken))
 
 fits-requires : tie.Need-fits-requires
-unfolding form-sound lines-allowed lp2
+unfolding form-sound
 fits-requires c κs =
-    let f = start-at-fits-requires c .args .p .form in
-    let t = and-eq-true-iff (lines-allowed lp2 (f .lines)) (spacing-allowed (f .spacing)) .0 (held1 c) in
-    leb-true _ _ (and-eq-true-iff (leb 1 (f .lines)) (leb (f .lines) 99) .0 (t .0) .1)
+    let p = start-at-fits-requires c .args .p in
+    let t = and-eq-true-iff (lines-allowed (edition-of p) (p .form .lines)) (spacing-allowed (p .form .spacing)) .0 (held1 c) in
+    omega (arith, lines-most (edition-of p) (p .form .lines) (t .0), described-bounded (p .model) .longest)
 
 returns-2 : tie.Need-returns-2
 unfolding sound
@@ -86,7 +88,7 @@ returns-3 : tie.Need-returns-3
 unfolding sound
 returns-3 c =
     let p = start-at-returns-3 c .args .p in
-    let over = lt-leb (p .head .column) (lp2 .width (p .style .pitch)) (omega (arith, c .if3 .taken, c .before .before .width .ensures)) in
+    let over = lt-leb (p .head .column) (edition-of p .width (p .style .pitch)) (omega (arith, c .if3 .taken, c .before .before .width .ensures)) in
     rw (decides (held2 (c .before .before .before)) over)
 
 returns-4 : tie.Need-returns-4

@@ -4,43 +4,46 @@ mod Places
 use Prim.Native.Nat.{_-_, _<_}
 use native.Mathlib.Omega.{arith}
 use borrow.Author.Needs.{needs}
+use Rattle.sheet.specs.declared.Model.the-variants.{Lp2}
 use Rattle.sheet.specs.Edition.{lp2}
-use Rattle.striking.proofs.Striking.{below-store, Left, all-left, eight-struck, none-left}
+use Rattle.sheet.proofs.Editions.{described-proper}
+use Rattle.striking.proofs.Striking.{Walked, none-walked, eight-struck, all-walked}
 use Rattle.striking.proofs.lines.columns.Statement.{statement}
 use Rattle.striking.proofs.lines.columns.Tie as tie
 use Places.*
 
 abbrev Inv-loop : tie.InvT-loop
-Inv-loop page₀ line row pitch w first₀ page first = Left line pitch row page₀ first page
+Inv-loop page₀ line row pitch w column₀ page column = Walked Lp2 line pitch row page₀ column page
 
 abbrev μ-loop : tie.MeasureT-loop
-μ-loop page₀ line row pitch w first₀ page first = w - first
+μ-loop page₀ line row pitch w column₀ page column = w - column
 
 loop-holds : tie.Need-loop-holds Inv-loop μ-loop
-loop-holds c = all-left _ _ _ _
+loop-holds c = none-walked _ _ _ _ _
 
-below : (c : tie.In-loop Inv-loop μ-loop) → c .before .loop .first < lp2 .width (start-at-in-loop c .args .pitch)
+below : (c : tie.In-loop Inv-loop μ-loop) → c .before .loop .column < lp2 .width (start-at-in-loop c .args .pitch)
 below c = omega (arith, c .loop-test, c .before .before .width .ensures)
 
-eight-requires : tie.Need-eight-requires Inv-loop μ-loop
-eight-requires c κs =
-    let room = start-at-eight-requires c .pre in
-    let left = c .before .before .loop .inv in
-    (record { rows = omega (arith, room .rows, left .kept); full = room .full }, (left .whole, below (c .before)))
+eight-columns-requires : tie.Need-eight-columns-requires Inv-loop μ-loop
+eight-columns-requires c κs =
+    let room = start-at-eight-columns-requires c .pre in
+    let walked = c .before .before .loop .inv in
+    (record { rows = omega (arith, room .rows, walked .left .kept); full = room .full }, (walked .whole, below (c .before)))
 
-add-first : tie.Need-add-first Inv-loop μ-loop
-add-first c = omega (arith, below (in-loop-at-add-first c), below-store (start-at-add-first c .args .pitch))
+add-column : tie.Need-add-column Inv-loop μ-loop
+add-column c = omega (arith, below (in-loop-at-add-column c), described-proper Lp2 .wide (start-at-add-column c .args .pitch))
 
 loop-again : tie.Need-loop-again Inv-loop μ-loop
 loop-again c =
-    eight-struck _ _ _ _ _ _ _ (start-at-loop-again c .pre .full) (loop-at-loop-again c .loop .inv) (below (in-loop-at-loop-again c))
-    (c .before .before .eight .ensures)
+    eight-struck Lp2 _ _ _ _ _ _ _ (start-at-loop-again c .pre .full) (loop-at-loop-again c .loop .inv) (below (in-loop-at-loop-again c))
+    (c .before .before .eight-columns .ensures)
 
 returns : tie.Need-returns Inv-loop μ-loop
-returns c = none-left _ _ _ _ _ _ (start-at-returns c .pre .full) (c .before .loop .inv) (omega (arith, c .loop-test, c .before .before .width .ensures))
+returns c =
+    all-walked Lp2 _ _ _ _ _ _ (start-at-returns c .pre .full) (c .before .loop .inv) (omega (arith, c .loop-test, c .before .before .width .ensures))
 
 pub columns-spec : {M : Type 1} → statement M
 columns-spec =
     tie.close
-    (tie.spec Inv-loop μ-loop (λ c κs. search needs) loop-holds eight-requires add-first (λ c. search needs) loop-again (λ c. c .before .loop .inv .kept)
-    returns)
+    (tie.spec Inv-loop μ-loop (λ c κs. search needs) loop-holds eight-columns-requires add-column (λ c. search needs) loop-again
+    (λ c. c .before .loop .inv .left .kept) returns)

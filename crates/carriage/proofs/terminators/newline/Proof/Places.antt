@@ -28,6 +28,9 @@ lower-at-returns c = c .before .before .before .before .before .before .before .
 abbrev pub lower-at-returns-2 : tie.After-slice-known6 → tie.After-lower
 lower-at-returns-2 c = c .before .before .before .before .before .before .before .before .before .before
 
+abbrev pub start-at-fits-requires : tie.After-lower → tie.Start
+start-at-fits-requires c = c .before .before .before .before .before .before
+
 abbrev pub start-at-lower-requires : tie.After-advance → tie.Start
 start-at-lower-requires c = c .before .before .before .before .before
 

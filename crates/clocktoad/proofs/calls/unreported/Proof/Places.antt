@@ -16,6 +16,9 @@ fit-at-returns-2 c = c .before .before .before .before
 abbrev pub start-at-else1 : tie.Else1 → tie.Start
 start-at-else1 c = c .before .before .before .before .before .before .before
 
+abbrev pub start-at-fit-requires : tie.After-form → tie.Start
+start-at-fit-requires c = c .before .before .before .before .before .before .before .before
+
 abbrev pub start-at-returns : tie.Then1 → tie.Start
 start-at-returns c = c .before .before .before .before .before .before .before
 

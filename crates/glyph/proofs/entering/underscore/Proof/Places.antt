@@ -2,6 +2,9 @@
 use Rattle.glyph.proofs.entering.underscore.Tie as tie
 
 module _ {Inv-loop : tie.InvT-loop} {μ-loop : tie.MeasureT-loop} where
+  abbrev pub in-loop-at-add-to : tie.After-slice-known2 Inv-loop μ-loop → tie.In-loop Inv-loop μ-loop
+  in-loop-at-add-to c = c .before .before .before .before
+
   abbrev pub in-loop-at-loop-again : tie.After-slice-known2 Inv-loop μ-loop → tie.In-loop Inv-loop μ-loop
   in-loop-at-loop-again c = c .before .before .before .before
 

@@ -26,6 +26,9 @@ abbrev pub start-at-enum-told : tie.After-enum-told → tie.Start
 start-at-enum-told c = c .before .before .before .before .before .before .before .before .before .before .before .before .before .before .before
     .before
 
+abbrev pub start-at-fit-requires : tie.After-fit-arg4 → tie.Start
+start-at-fit-requires c = c .before .before .before .before .before .before .before .before .before .before .before .before .before
+
 abbrev pub start-at-returns-2 : tie.After-known-told → tie.Start
 start-at-returns-2 c = c .before .before .before .before .before .before .before .before .before .before .before .before .before .before .before
     .before .before

@@ -21,3 +21,7 @@ start-at-else1 c = c .before .before .before .before .before .before .before .be
 
 abbrev pub start-at-returns : tie.After-unopened → tie.Start
 start-at-returns c = c .before .before .before .before .before .before .before .before .before .before .before .before .before
+
+abbrev pub start-at-start-requires : tie.After-start-arg4 → tie.Start
+start-at-start-requires c = c .before .before .before .before .before .before .before .before .before .before .before .before .before .before .before
+    .before

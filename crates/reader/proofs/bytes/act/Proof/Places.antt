@@ -22,6 +22,9 @@ pending9-at-returns-11 c = c .before .before .before .before .before .before .be
 abbrev pub reset-at-returns-4 : tie.After-slice-known9 → tie.After-reset
 reset-at-returns-4 c = c .before .before .before .before
 
+abbrev pub start-at-reset-requires : tie.After-reset-arg2 → tie.Start
+start-at-reset-requires c = c .before .before .before .before .before .before .before .before .before .before .before
+
 abbrev pub start-at-returns : tie.After-slice-known6 → tie.Start
 start-at-returns c = c .before .before .before .before .before .before .before .before .before .before .before .before .before .before .before
 
@@ -55,6 +58,9 @@ start-at-returns-8 c = c .before .before .before .before .before .before .before
 
 abbrev pub start-at-returns-9 : tie.After-waiting4 → tie.Start
 start-at-returns-9 c = c .before .before .before .before .before .before .before .before .before
+
+abbrev pub with-pending-at-reset-requires : tie.After-reset-arg2 → tie.After-with-pending
+with-pending-at-reset-requires c = c .before .before
 
 abbrev pub with-pending-at-returns-4 : tie.After-slice-known9 → tie.After-with-pending
 with-pending-at-returns-4 c = c .before .before .before .before .before .before .before

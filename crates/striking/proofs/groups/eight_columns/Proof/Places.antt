@@ -1,5 +1,5 @@
--- The places that the proof of `groups::eight` names. Made by tools/places; nobody has to read it.
-use Rattle.striking.proofs.groups.eight.Tie as tie
+-- The places that the proof of `groups::eight_columns` names. Made by tools/places; nobody has to read it.
+use Rattle.striking.proofs.groups.eight_columns.Tie as tie
 
 abbrev pub enum-told-at-returns-2 : tie.After-slice-known2 → tie.After-enum-told
 enum-told-at-returns-2 c = c .before .before .before .before
