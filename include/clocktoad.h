@@ -21,7 +21,7 @@ extern "C" {
 #endif
 
 /* Lengths of the lent slices, in elements. */
-#define CLOCKTOAD_STATE_WORDS   20   /* uint64_t */
+#define CLOCKTOAD_STATE_WORDS   23   /* uint64_t */
 #define CLOCKTOAD_REPORT_WORDS  4    /* uint64_t */
 #define CLOCKTOAD_LINE_NUMBERS  2200 /* uint16_t */
 #define CLOCKTOAD_STAGING_BYTES 2048

@@ -391,7 +391,7 @@ static void case_k_and_l(void)
 
 static void sizes(void)
 {
-    EQUAL(clocktoad_state_words(), 20);
+    EQUAL(clocktoad_state_words(), 23);
     EQUAL(clocktoad_report_words(), 4);
     EQUAL(clocktoad_line_numbers(), 2200);
     EQUAL(clocktoad_staging_bytes(), 2048);
@@ -519,7 +519,7 @@ static void refuse_in_order(struct job *j, const unsigned *order, size_t count, 
         }
 }
 
-/* Twenty words that are no sound state: 10, with nothing else wrong, with one fault, and with all but the length. */
+/* Words that are no sound state: 10, with nothing else wrong, with one fault, and with all but the length. */
 static void refuse_state(struct job *j, unsigned turn)
 {
     struct numbers one = j->n, all = j->n;

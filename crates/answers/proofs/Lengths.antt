@@ -8,6 +8,7 @@ use Rattle.sheet.specs.declared.Form.{Form}
 use Rattle.sheet.specs.Edition.{Edition}
 use Rattle.sheet.specs.Form.{page-bytes}
 use Rattle.printer.specs.Machine.{Machine, store-size}
+use Rattle.protocol.specs.declared.Fit.{Fit}
 use Rattle.protocol.specs.declared.Fit.the-variants.{Right, Wrong}
 use Rattle.protocol.specs.declared.Lent.the-variants.{DownloadStore, Font, LineStore, Page, Staging}
 use Rattle.protocol.specs.Calls.{fit}
@@ -40,3 +41,7 @@ module _ (e : Edition) (form : Form) (font : List ℕ) (m : Machine) {n : ℕ} (
           pub all-right : length font ≡ store-size → Right ≡ fit e form font m
           unfolding fit
           all-right h = simp (eq-eqb _ _ (page ∙ size), eq-eqb _ _ (line ∙ columns), eq-eqb _ _ staging, eq-eqb _ _ store, eq-eqb _ _ h)
+
+-- what fits one form fits the same form under another name
+pub same-form : (e : Edition) (font : List ℕ) (m : Machine) {t : Fit} {f g : Form} → t ≡ fit e f font m → f ≡ g → t ≡ fit e g font m
+same-form e font m told same = rw (← same) told

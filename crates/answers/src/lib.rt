@@ -23,11 +23,12 @@ use protocol::Opened;
 use sheet::Form;
 use sheet::Model;
 use sheet::Pitch;
-use sheet::counts::top;
 use sheet::sizes::line_numbers;
 use sheet::sizes::lines_allowed;
+use sheet::sizes::new_form;
 use sheet::sizes::page_bytes;
 use sheet::sizes::spacing_allowed;
+use sheet::sizes::top_row;
 
 // The first of what is lent that has not its exact length.
 pub fn fit(
@@ -82,7 +83,7 @@ pub fn admit(
     if !spacing_allowed(spacing) {
         return Answer::WrongSpacing;
     }
-    let form = Form { lines, spacing };
+    let form = new_form(lines, spacing);
     let fitting = fit(model, form, page, line, staging, store, font);
     match fitting {
         Fit::Wrong(lent) => Answer::Misfit(lent),
@@ -92,10 +93,11 @@ pub fn admit(
 
 // The state at the start of a job.
 pub fn new_printer(model: Model, form: Form) -> Printer
+    requires { ⌜ (1 ≤ form .top .0) × (form .top .0 ≤ 128) ⌝ }
     ensures { λ r. ⌜ r ≡ new-printer model form ⌝ }
 {
     let head = Head {
-        row: top(),
+        row: top_row(form),
         column: 0,
         fresh: true,
         plotted: false,
@@ -123,12 +125,8 @@ pub fn new_printer(model: Model, form: Form) -> Printer
 pub fn unopened(model: Model, answer: Answer) -> Opened
     ensures { λ r. ⌜ r ≡ record { printer = shut model; answer = answer } ⌝ }
 {
-    let form = Form {
-        lines: 0,
-        spacing: 0,
-    };
     Opened {
-        printer: new_printer(model, form),
+        printer: new_printer(model, new_form(0, 0)),
         answer,
     }
 }

@@ -3,12 +3,12 @@ use Prim.Native.Nat.{ℕ}
 use mathlib.Core.Bool.{cond, false, true}
 use mathlib.Core.List.{List}
 use mathlib.Core.Path.{_≡_}
-use lib.ListN.{drop}
+use lib.ListN.{drop, take}
 use Rattle.sheet.specs.declared.Line.{Line}
 use Rattle.sheet.specs.declared.Row.{Row}
 use Rattle.sheet.specs.Dots.{struck}
 use Rattle.sheet.specs.Edition.{Edition}
-use Rattle.sheet.specs.Form.{empty-line, first-line, first-row, fits, lines-through, lower, next-line, rows-per-line, top}
+use Rattle.sheet.specs.Form.{empty-line, first-row, fits, lines-above, lines-through, lower, next-line, rows-per-line, top-row}
 use Rattle.printer.specs.declared.Event.{Event}
 use Rattle.printer.specs.declared.NextTab.{NextTab}
 use Rattle.printer.specs.declared.NextTab.the-variants.{Tabbed, Untabbed}
@@ -36,19 +36,21 @@ module _ (e : Edition) (m : Machine) where
     unfolding newline
     line-down q h = simp (← advance, ← down, h) q
 
-    pub form-over : {s : Step} {first : Row} → first ≡ top → s ≡ finished (strike e first m) → fits (m .printer .form) next ≡ false
+    pub form-over : {s : Step} {first : Row} → first ≡ top-row (m .printer .form) → s ≡ finished (strike e first m) → fits (m .printer .form) next ≡ false
         → s ≡ newline e m
     unfolding newline
     form-over t q h = simp (← advance, ← down, h, ← t) q
 
-  pub form-fed : {s : Step} {first : Row} → first ≡ top → s ≡ finished (strike e first m) → s ≡ form-feed e m
+  pub form-fed : {s : Step} {first : Row} → first ≡ top-row (m .printer .form) → s ≡ finished (strike e first m) → s ≡ form-feed e m
   unfolding form-feed
   form-fed t q = simp (← t) q
 
   pub tabbed-to : {s : Step} {n : Line} {below lowest : NextTab} → s ≡ tab-to e below lowest m → n ≡ current-line m →
-      below ≡ first-tab (next-line n) (drop (lines-through n) (line-tabs (m .printer .tabs))) →
-      lowest ≡ first-tab first-line (line-tabs (m .printer .tabs)) →
-      s ≡ vertical-tab e m
+      (let f = m .printer .form in
+      let tabs = take (lines-through (f .bottom)) (line-tabs (m .printer .tabs)) in
+      below ≡ first-tab (next-line n) (drop (lines-through n) tabs) →
+      lowest ≡ first-tab (f .top) (drop (lines-above (f .top)) tabs) →
+      s ≡ vertical-tab e m)
   unfolding vertical-tab
   tabbed-to q current under first = simp (← current, ← under, ← first) q
 

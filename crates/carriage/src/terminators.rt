@@ -3,7 +3,7 @@ ghost use mathlib.Core.Path.{_≡_};
 ghost use mathlib.Core.Bool.{cond};
 ghost use mathlib.Core.List.{List};
 ghost use Prim.Native.Nat.{ℕ, _+_, _≤_};
-ghost use lib.ListN.{drop};
+ghost use lib.ListN.{drop, take};
 ghost use Rattle.sheet.specs.Form.{line, rows-per-line};
 ghost use Rattle.printer.specs.Given.{given, machine};
 ghost use Rattle.printer.specs.Machine.{edition-of};
@@ -14,15 +14,17 @@ ghost use Rattle.printer.specs.Terminators.{carriage-return, first-tab, form-fe
 use printer::NextTab;
 use printer::Printer;
 use printer::Stepped;
+use printer::TabSet;
 use sheet::Row;
 use sheet::counts::line;
+use sheet::counts::lines_above;
 use sheet::counts::lines_through;
-use sheet::counts::top;
 use sheet::sizes::first_row;
 use sheet::sizes::fits;
 use sheet::sizes::line_of;
 use sheet::sizes::lower;
 use sheet::sizes::rows_per_line;
+use sheet::sizes::top_row;
 use state::parts::finished;
 use state::parts::fresh;
 use state::parts::quiet;
@@ -81,7 +83,7 @@ pub fn newline(p: Printer, page: &mut [u8], line: &mut [u16]) -> Stepped
     if fits(form, next) {
         line_done(p, next, page, line)
     } else {
-        form_done(p, top(), page, line)
+        form_done(p, top_row(form), page, line)
     }
 }
 
@@ -92,7 +94,8 @@ pub fn form_feed(p: Printer, page: &mut [u8], line: &mut [u16]) -> Stepped
         → given r (now (page .exit)) (now (line .exit)) staging store
         ≡ form-feed (edition-of p) (machine p (now (page .entry)) (now (line .entry)) staging store)) ⌝ }
 {
-    form_done(p, top(), page, line)
+    let form = p.form;
+    form_done(p, top_row(form), page, line)
 }
 
 // 0D.
@@ -106,14 +109,13 @@ pub fn carriage_return(p: Printer, page: &mut [u8], line: &mut [u16]) -> Stepped
     line_done(p, row, page, line)
 }
 
-// The first tabbed line of those below the first `above`.
-fn first_tab(p: Printer, above: usize) -> NextTab
-    requires { ⌜ above ≤ 2000 ⌝ }
-    ensures { λ r. ⌜ (r ≡ first-tab (line (above + 1)) (drop above (line-tabs (p .tabs)))) × Kept r ⌝ }
+// The first tabbed line of those below the first `above`, down to line `last`.
+fn first_tab(tabs: TabSet, above: usize, last: usize) -> NextTab
+    requires { ⌜ (above ≤ 2000) × (last ≤ 128) ⌝ }
+    ensures { λ r. ⌜ (r ≡ first-tab (line (above + 1)) (drop above (take last (line-tabs tabs)))) × Kept r ⌝ }
 {
-    let tabs = p.tabs;
     let mut i = above;
-    while i < 128 {
+    while i < last {
         if tabbed(tabs, i) {
             return NextTab::Tabbed(line(i + 1));
         }
@@ -148,8 +150,10 @@ pub fn vertical_tab(p: Printer, page: &mut [u8], line: &mut [u16]) -> Stepped
 {
     let form = p.form;
     let row = p.head.row;
-    let current = line_of(form, row);
-    let below = first_tab(p, lines_through(current));
-    let lowest = first_tab(p, 0);
+    let top = form.top;
+    let bottom = form.bottom;
+    let last = lines_through(bottom);
+    let below = first_tab(p.tabs, lines_through(line_of(form, row)), last);
+    let lowest = first_tab(p.tabs, lines_above(top), last);
     tab_to(p, below, lowest, page, line)
 }

@@ -1,10 +1,10 @@
-// The commands that ESC begins, but for the download.
+// The commands that ESC begins, but for the download and for those that ESC [ begins.
 ghost use mathlib.Core.Path.{_≡_};
 ghost use mathlib.Core.List.{List};
 ghost use Prim.Native.Nat.{ℕ, _≤_};
 ghost use lib.ListN.{length};
 ghost use Rattle.sheet.specs.Form.{has-line};
-ghost use Rattle.printer.specs.Escapes.{escape, in-turn, reset, select, tab, tab-here, tab-item};
+ghost use Rattle.printer.specs.Escapes.{escape, in-turn, repitched, reset, select, tab, tab-here, tab-item};
 ghost use Rattle.printer.specs.Given.{bare, given, machine, over};
 ghost use Rattle.printer.specs.Machine.{Machine, edition-of, store-size, with-printer};
 use printer::Fault;
@@ -18,6 +18,7 @@ use sheet::clearing::empty;
 use sheet::counts::line;
 use sheet::counts::lines_above;
 use sheet::sizes::line_of;
+use sheet::sizes::mixed;
 use state::parts::after_reset;
 use state::parts::begin_plot;
 use state::parts::noted;
@@ -78,6 +79,18 @@ fn in_turn(p: Printer, after: Printer, place: u32) -> Stepped
     }
 }
 
+// What is allowed anywhere where the model lets the pitch change, else on fresh lines only.
+pub(crate) fn repitched(p: Printer, after: Printer, place: u32) -> Stepped
+    ensures { λ r. ⌜ ((m : Machine) → over m r ≡ repitched (edition-of p) place (with-printer p m) (with-printer after m)) ⌝ }
+{
+    let model = p.model;
+    if mixed(model) {
+        quiet(after)
+    } else {
+        in_turn(p, after, place)
+    }
+}
+
 // ESC c and a byte.
 pub fn reset(p: Printer, b: u8, place: u32, line: &mut [u16], store: &mut [u8]) -> Stepped
     requires { ⌜ (length (now line) ≡ edition-of p .columns) × (length (now store) ≡ store-size) ⌝ }
@@ -107,7 +120,7 @@ pub fn select(p: Printer, high: u8, low: u8, place: u32) -> Stepped
 
 // ESC and one byte, which with it is a whole command, or unknown.
 pub fn escape(p: Printer, b: u8, place: u32) -> Stepped
-    ensures { λ r. ⌜ ((m : Machine) → over m r ≡ escape b place (with-printer p m)) ⌝ }
+    ensures { λ r. ⌜ ((m : Machine) → over m r ≡ escape (edition-of p) b place (with-printer p m)) ⌝ }
 {
     match b {
         0x35 => quiet(tab_here(p, true)),
@@ -116,8 +129,8 @@ pub fn escape(p: Printer, b: u8, place: u32) -> Stepped
         0x3d => quiet(set_elongated(p, false)),
         0x61 => quiet(set_underscore(p, true)),
         0x62 => quiet(set_underscore(p, false)),
-        0x3e => in_turn(p, set_pitch(p, Pitch::Compressed), place),
-        0x3f => in_turn(p, set_pitch(p, Pitch::Normal), place),
+        0x3e => repitched(p, set_pitch(p, Pitch::Compressed), place),
+        0x3f => repitched(p, set_pitch(p, Pitch::Normal), place),
         0x64 => in_turn(p, begin_plot(p), place),
         0x65 => quiet(p),
         0x4f => quiet(set_downloaded(p, false)),

@@ -19,7 +19,7 @@ pub struct Sizes {
     pub font: usize,
 }
 
-// `kind`: the line's first word. `state`, `other`: a state as the twenty words of `words`, and the one before the word `with`. `sends`, `count`: whether there
+// `kind`: the line's first word. `state`, `other`: a state as the words of `words`, and the one before the word `with`. `sends`, `count`: whether there
 // is a piece, and of how many bytes. `view`: the word for what is told of the memory, from `first` to `last`. `known`: whether the line is understood so far.
 pub struct Case {
     pub kind: u64,
@@ -51,9 +51,11 @@ fn is_kind(word: u64) -> bool {
 // The case of a kind before its settings: the state of a job just opened, a fresh line of a form of 1 line at 8 an inch, and the exact lengths.
 pub fn new_case(kind: u64) -> Case {
     let mut state = [0u64; STATE_WORDS];
-    state[0] = 1;
-    state[1] = 8;
-    state[5] = 1;
+    state[1] = 1;
+    state[2] = 8;
+    state[3] = 1;
+    state[4] = 1;
+    state[8] = 1;
     let lent = Sizes {
         page: 7425,
         line: LP2_LINE_NUMBERS,

@@ -14,8 +14,8 @@ use protocol::Answer;
 use protocol::numbers::answer_number;
 use protocol::numbers::noted_number;
 use protocol::numbers::noted_place;
-use sheet::Form;
 use sheet::Model;
+use sheet::sizes::new_form;
 use words::STATE_WORDS;
 use words::is_state;
 use words::put;
@@ -121,11 +121,7 @@ fn held(state: &[u64; STATE_WORDS]) -> Printer {
     if is_state(state) {
         return state_of(state);
     }
-    let form = Form {
-        lines: 0,
-        spacing: 0,
-    };
-    new_printer(Model::Lp2, form)
+    new_printer(Model::Lp2, new_form(0, 0))
 }
 
 // Opens the state's form, or offers the rest of a piece to the state, which is left as the call gives it back; the count is of the rest's bytes alone.

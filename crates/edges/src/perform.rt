@@ -86,9 +86,9 @@ fn close_case(c: Case, piece: &[u8]) -> bool {
 
 // Writes how many bytes the job has, where the head stands and how the job closes.
 fn say_left(state: [u64; STATE_WORDS]) -> bool {
-    say_number(b", job ", state[2])
-        && say_number(b", row ", state[3])
-        && say_number(b", column ", state[4])
+    say_number(b", job ", state[5])
+        && say_number(b", row ", state[6])
+        && say_number(b", column ", state[7])
         && say_closing(b", close ", close_state(state))
 }
 

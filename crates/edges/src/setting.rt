@@ -73,40 +73,43 @@ fn set_memory(mut c: Case, word: u64, number: usize) -> Case {
 // The place of a number or a truth among the words of a state; past them all for what has none.
 fn place_of(word: u64) -> usize {
     match word {
-        LINES => 0,
-        SPACING => 1,
-        JOB => 2,
-        ROW => 3,
-        COLUMN => 4,
-        FRESH => 5,
-        PLOTTED => 6,
-        PLOTTING => 7,
-        COMPRESS => 8,
+        LINES => 1,
+        SPACING => 2,
+        JOB => 5,
+        ROW => 6,
+        COLUMN => 7,
+        FRESH => 8,
+        PLOTTED => 9,
+        PLOTTING => 10,
+        COMPRESS => 11,
         _ => STATE_WORDS,
     }
 }
 
 // Sets a command that has begun at a place. A payload is one of 16 bytes for the download store's start.
 fn set_command(mut state: [u64; STATE_WORDS], kind: u64, place: u64) -> [u64; STATE_WORDS] {
-    state[14] = kind;
-    state[15] = place;
+    state[17] = kind;
+    state[18] = place;
     if kind == 10 {
-        state[17] = 16;
-        state[18] = 2048;
+        state[20] = 16;
+        state[21] = 2048;
     }
     state
 }
 
 // Sets a tab on a line.
 fn set_tab(mut state: [u64; STATE_WORDS], line: usize) -> [u64; STATE_WORDS] {
-    state[12] = tab_bit(line);
-    state[13] = tab_bit(std::num::wrapping_sub_usize(line, 64));
+    state[15] = tab_bit(line);
+    state[16] = tab_bit(std::num::wrapping_sub_usize(line, 64));
     state
 }
 
 // Sets a part of the state.
 fn set_state(mut state: [u64; STATE_WORDS], word: u64, number: usize) -> [u64; STATE_WORDS] {
     let place = place_of(word);
+    if word == LINES {
+        state[4] = number as u64;
+    }
     if place < STATE_WORDS {
         state[place] = number as u64;
         return state;
@@ -122,10 +125,10 @@ fn set_state(mut state: [u64; STATE_WORDS], word: u64, number: usize) -> [u64; S
 // Sets how much of a payload came.
 fn set_taken(mut c: Case, taken: usize) -> Case {
     let mut state = c.state;
-    if state[14] != 10 {
+    if state[17] != 10 {
         return unknown(c);
     }
-    state[19] = taken as u64;
+    state[22] = taken as u64;
     c.state = state;
     c
 }

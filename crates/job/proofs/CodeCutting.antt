@@ -7,7 +7,7 @@ use lib.ListN.{length}
 use Rattle.sheet.specs.declared.Model.{Model}
 use Rattle.sheet.specs.Edition.{Edition, described}
 use Rattle.sheet.specs.Held.{All, HeldBytes}
-use Rattle.sheet.proofs.Editions.{described-countable}
+use Rattle.sheet.proofs.Editions.{described-countable, described-proper}
 use Rattle.sheet.proofs.Held.{rest-held}
 use Rattle.printer.specs.Commands.{reading}
 use Rattle.printer.specs.Held.{Held, HeldMemory}
@@ -40,13 +40,14 @@ pub code-agrees : (code : Meets) (w : Model) (font : List ℕ) → HeldBytes fon
     → Agree (described w) (HeldOf w) HeldBytes (code .feed font) (feeding (described w) font)
 code-agrees code w font f =
     let e : Edition = described w in
+    let proper = described-proper w in
     let countable = described-countable w in
     let model : (piece : List ℕ) (m : Machine) → HeldOf w m → feeding e font piece m .machine .printer .model ≡ w =
     λ piece m h. feeding-model e font piece m ∙ h .model in
     record {
       same = λ piece m p h. code .feeds font piece m f p (h .held) ∙ ap (λ (v : Model). feeding (described v) font piece m) (h .model);
-      left = λ piece m p h. record { model = model piece m h; held = feeding-held countable font piece m (p .below) (h .held) };
-      lent = λ piece m p h q. record { model = model piece m h; held = finished-held countable font piece m (p .below) (h .held) q };
+      left = λ piece m p h. record { model = model piece m h; held = feeding-held proper countable font piece m (p .below) (h .held) };
+      lent = λ piece m p h q. record { model = model piece m h; held = finished-held proper countable font piece m (p .below) (h .held) q };
       rest = λ n piece p. rest-held 1 n piece p;
     }
 

@@ -1,6 +1,6 @@
 -- A piece of which some bytes are taken: how a run and a step lead on, and how the taking ends.
 use Prim.Native.Nat.{ℕ, _+_, _-_, _≤_, _<_}
-use mathlib.Core.Bool.{true, false}
+use mathlib.Core.Bool.{false, true, true≢false}
 use mathlib.Core.List.{List}
 use mathlib.Core.Path.{_≡_, refl, ap, subst, sym, _∙_}
 use native.Mathlib.Omega.{arith}
@@ -8,6 +8,9 @@ use lib.ListN.{drop, getD, length, length-drop, take}
 use lib.Seq.{drop-drop, take-all}
 use Rattle.sheet.specs.Edition.{Edition, described}
 use Rattle.sheet.proofs.Editions.{Proper}
+use Rattle.printer.proofs.Ready.{quiet-ready}
+use Rattle.printer.specs.declared.Event.{Event}
+use Rattle.printer.specs.declared.Event.the-variants as event
 use Rattle.printer.specs.declared.Printer.{Printer}
 use Rattle.printer.specs.Bytes.{step}
 use Rattle.printer.specs.Given.{machine}
@@ -15,7 +18,7 @@ use Rattle.printer.specs.Machine.{Machine, edition-of, limit, store-size}
 use Rattle.printer.specs.Room.{Ready, Room, Writable}
 use Rattle.printer.specs.Steps.{Step}
 use Rattle.printer.proofs.Keeping.{step-counts}
-use Rattle.printer.proofs.StaysSound.{step-ready}
+use Rattle.printer.proofs.StaysSound.{step-fine}
 use Rattle.protocol.specs.declared.Answer.the-variants.{Done, JobFull}
 use Rattle.protocol.specs.Calls.{Feeding, take-bytes}
 use Rattle.protocol.specs.Given.{answer-to, given-feeding, is-quiet, more}
@@ -31,6 +34,12 @@ pub record Underway (e : Edition) (font piece : List ℕ) (m₀ m : Machine) (i 
 
 pub at-start : {font piece : List ℕ} {m : Machine} → let e = edition-of (m .printer) in Ready e m → Underway e font piece m m 0
 at-start h = record { edition = refl; ready = h; within = omega arith; same = more-zero _ }
+
+-- an event that is quiet
+quiet-event : (v : Event) → is-quiet v ≡ true → v ≡ event.Quiet
+quiet-event event.Quiet q = refl
+quiet-event event.Finished q = absurd (true≢false (sym q))
+quiet-event (event.Noted f place) q = absurd (true≢false (sym q))
 
 -- what a run asks for
 pub writable : {e : Edition} → Proper e → {p : Printer} {page line staging store font : List ℕ} → Ready e (machine p page line staging store)
@@ -78,12 +87,14 @@ module _ {e : Edition} {font piece : List ℕ} {m₀ m : Machine} {i : ℕ} (h :
       is = here ∙ ap (λ (x : Edition). step x font (getD piece i 0) m) (h .edition)
 
       -- a quiet byte more
-      pub after-step : is-quiet (s .event) ≡ true → Underway e font piece m₀ (s .machine) (i + 1)
-      after-step q =
+      pub after-step : Proper e → is-quiet (s .event) ≡ true → Underway e font piece m₀ (s .machine) (i + 1)
+      after-step proper q =
           record {
             edition =
                 ap (λ (t : Step). edition-of (t .machine .printer)) is ∙ ap described (step-counts e font (getD piece i 0) m .model) ∙ h .edition;
-            ready = subst (λ (t : Step). Ready e (t .machine)) (sym is) (step-ready (h .ready) font (getD piece i 0));
+            ready =
+                subst (λ (t : Step). Ready e (t .machine)) (sym is)
+                (quiet-ready (step-fine proper (h .ready) font (getD piece i 0)) (ap (λ (t : Step). t .event) (sym is) ∙ quiet-event (s .event) q));
             within = omega (arith, l);
             same = h .same ∙ taken-on e font piece i m s is l room q;
           }

@@ -1,5 +1,6 @@
 // Opening, feeding and closing a job. Each call takes whatever it is handed, and refuses by number what doesn't fit.
 ghost use mathlib.Core.Path.{_≡_};
+ghost use Prim.Native.Nat.{_≤_};
 ghost use lib.ListN.{drop, length};
 ghost use Rattle.sheet.specs.declared.Form.{Form};
 ghost use Rattle.sheet.specs.Edition.{described};
@@ -32,6 +33,7 @@ use sheet::Form;
 use sheet::Model;
 use sheet::clearing::blank;
 use sheet::clearing::empty;
+use sheet::sizes::new_form;
 use state::closing;
 use state::sound;
 
@@ -44,6 +46,7 @@ fn start(
     staging: &mut [u8],
     store: &mut [u8],
 ) -> Opened
+    requires { ⌜ (1 ≤ form .top .0) × (form .top .0 ≤ 128) ⌝ }
     requires { ⌜ Sized (described model) form (now page) (now line) (now staging) (now store) ⌝ }
     ensures { λ r. ⌜ given-opening r (now (page .exit)) (now (line .exit)) (now (staging .exit)) (now (store .exit))
         ≡ record { answer = Answer.Done; machine = opened model form } ⌝ }
@@ -77,7 +80,7 @@ pub fn open(
     if refusal(answer) {
         return unopened(model, answer);
     }
-    let form = Form { lines, spacing };
+    let form = new_form(lines, spacing);
     start(model, form, page, line, staging, store)
 }
 

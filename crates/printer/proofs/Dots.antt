@@ -7,6 +7,7 @@ use mathlib.Core.Path.{_≡_, refl, sym, _∙_}
 use native.Mathlib.Nat.{mul-le-mul-right}
 use native.Mathlib.Omega.{arith}
 use lib.ListN.{length}
+use Rattle.sheet.proofs.Units.{fits-form}
 use Rattle.sheet.specs.declared.Form.{Form}
 use Rattle.sheet.specs.declared.Grid.{Grid}
 use Rattle.sheet.specs.declared.Row.{Row}
@@ -49,7 +50,7 @@ unfolding strikes-of
 strikes-fitting {e} {m} h b = go (strikes b m)
   where
     go : (t : Bool) → AllFitting (m .printer .form) (cond t (in-progress m ∷ []) [])
-    go true = (h .printer .head .row, tt)
+    go true = (fits-form _ _ (h .printer .form .bottom) (h .printer .head .row), tt)
     go false = tt
 
 -- strikes blacken the dots that they put down, and no other
@@ -79,7 +80,7 @@ module _ {e : Edition} (proper : Proper e) where
   -- and so does every dot that a byte puts down after any others
   pub job-on-form : {m : Machine} → Ready e m → (font before : List ℕ) (b d : ℕ) → In d (put-down e (strikes-of b (run e font before m .machine)))
       → OnForm e (run e font before m .machine .printer .form) d × (d < 8 * length (run e font before m .machine .page))
-  job-on-form h font before b d p = byte-on-form (run-ready font before h) b d p
+  job-on-form h font before b d p = byte-on-form (run-ready proper font before h) b d p
 
 -- A dot is black after some strikes exactly where it was black before them or one of them put it there.
 module _ {e : Edition} (proper : Proper e) (f : Form) (r : Row) (g : Grid) (on-row : g .0 < 8 * e .bytes) where

@@ -27,15 +27,20 @@ use Rattle.printer.specs.declared.Head.{Head}
 use Rattle.printer.specs.declared.Load.{Load}
 use Rattle.printer.specs.declared.Pending.{Pending}
 use Rattle.printer.specs.declared.Pending.the-variants.{Nothing, Escape, Tabs, Reset, Select, SelectLow, CountHigh, CountLow, AddressHigh}
-use Rattle.printer.specs.declared.Pending.the-variants.{AddressLow, Payload}
+use Rattle.printer.specs.declared.Pending.the-variants.{AddressLow, Payload, Bracket}
 use Rattle.printer.specs.declared.Printer.{Printer}
+use Rattle.printer.specs.declared.Setting.{Setting}
+use Rattle.printer.specs.declared.Setting.the-variants.{Given, Omitted}
+use Rattle.printer.specs.declared.Settings.{Settings}
 use Rattle.printer.specs.declared.Style.{Style}
 use Rattle.printer.specs.declared.TabSet.{TabSet}
-use Rattle.printer.specs.Held.{HeldLoad, HeldPending, HeldState, HeldTabs}
+use Rattle.printer.specs.Held.{HeldLoad, HeldPending, HeldSetting, HeldSettings, HeldState, HeldTabs}
 use Rattle.printer.proofs.Head as head
 use Rattle.printer.proofs.Load as load
 use Rattle.printer.proofs.Pending as pending
 use Rattle.printer.proofs.Printer as printer
+use Rattle.printer.proofs.Setting as setting
+use Rattle.printer.proofs.Settings as settings
 use Rattle.printer.proofs.Style as style
 use Rattle.printer.proofs.TabSet as tabs
 
@@ -52,6 +57,30 @@ load-held : (l : Load) → Typed load.the-row l → HeldLoad l
 load-held l (vs, (vss, (row, ((c, count), ((a, address), ((t, taken), ((s, sum), end))))))) =
     record { count = count; address = address; taken = taken; sum = sum }
 
+setting-typed : (s : Setting) → HeldSetting s → Typed setting.the-row s
+setting-typed Omitted h = (_, (_, (refl, (_, (refl, tt)))))
+setting-typed (Given n) h = (_, (_, (refl, (_, (refl, ((refl, h), tt))))))
+
+setting-held : (s : Setting) → Typed setting.the-row s → HeldSetting s
+setting-held Omitted h = tt
+setting-held (Given n) (vs, (us, (is, (vss, (row, ((p, below), end)))))) = below
+
+settings-typed : (s : Settings) → HeldSettings s → Typed settings.the-row s
+settings-typed s h =
+    let a = setting-typed (s .first) (h .first) in
+    let b = setting-typed (s .second) (h .second) in
+    let c = setting-typed (s .third) (h .third) in
+    (_, (_, (refl, (a .1, (b .1, (c .1, ((refl, h .semicolons), tt)))))))
+
+settings-held : (s : Settings) → Typed settings.the-row s → HeldSettings s
+settings-held s (vs, (vss, (row, (a, (b, (c, ((d, semicolons), end))))))) =
+    record {
+      first = setting-held (s .first) (_, a);
+      second = setting-held (s .second) (_, b);
+      third = setting-held (s .third) (_, c);
+      semicolons = semicolons;
+    }
+
 pending-typed : (q : Pending) → HeldPending q → Typed pending.the-row q
 pending-typed Nothing h = (_, (_, (refl, (_, (refl, tt)))))
 pending-typed (Escape place) h = (_, (_, (refl, (_, (refl, ((refl, h), tt))))))
@@ -64,6 +93,7 @@ pending-typed (CountLow place high) h = (_, (_, (refl, (_, (refl, ((refl, h .0),
 pending-typed (AddressHigh place count) h = (_, (_, (refl, (_, (refl, ((refl, h .0), ((refl, h .1), tt)))))))
 pending-typed (AddressLow place count high) h = (_, (_, (refl, (_, (refl, ((refl, h .0), ((refl, h .1), ((refl, h .2), tt))))))))
 pending-typed (Payload place l) h = (_, (_, (refl, (_, (refl, ((refl, h .0), (load-typed l (h .1) .1, tt)))))))
+pending-typed (Bracket place s) h = (_, (_, (refl, (_, (refl, ((refl, h .0), (settings-typed s (h .1) .1, tt)))))))
 
 pending-held : (q : Pending) → Typed pending.the-row q → HeldPending q
 pending-held Nothing h = tt
@@ -77,12 +107,15 @@ pending-held (CountLow place high) (vs, (us, (is, (vss, (row, ((p, below), ((b, 
 pending-held (AddressHigh place count) (vs, (us, (is, (vss, (row, ((p, below), ((c, counted), end))))))) = (below, counted)
 pending-held (AddressLow place count high) (vs, (us, (is, (vss, (row, ((p, below), ((c, counted), ((b, byte), end)))))))) = (below, counted, byte)
 pending-held (Payload place l) (vs, (us, (is, (vss, (row, ((p, below), (loading, end))))))) = (below, load-held l (vss .1 .0, loading))
+pending-held (Bracket place s) (vs, (us, (is, (vss, (row, ((p, below), (numbers, end))))))) = (below, settings-held s (vss .1 .0, numbers))
 
-form-typed : (f : Form) → f .lines < 2 ^ 64 → f .spacing < 2 ^ 64 → Typed form.the-row f
-form-typed f l s = (_, (_, (refl, ((refl, l), ((refl, s), tt)))))
+form-typed : (f : Form) → f .lines < 2 ^ 64 → f .spacing < 2 ^ 64 → f .top .0 < 2 ^ 64 → f .bottom .0 < 2 ^ 64 → Typed form.the-row f
+form-typed f l s t b =
+    (_, (_, (refl, ((refl, l), ((refl, s), ((_, (refl, ((refl, t), tt))), ((_, (refl, ((refl, b), tt))), tt)))))))
 
-form-held : (f : Form) → Typed form.the-row f → (f .lines < 2 ^ 64) × (f .spacing < 2 ^ 64)
-form-held f (vs, (vss, (row, ((l, lines), ((s, spacing), end))))) = (lines, spacing)
+form-held : (f : Form) → Typed form.the-row f → (f .lines < 2 ^ 64) × (f .spacing < 2 ^ 64) × (f .top .0 < 2 ^ 64) × (f .bottom .0 < 2 ^ 64)
+form-held f (vs, (vss, (row, ((l, lines), ((s, spacing), ((ts, (one, ((t, top), last))), ((bs, (other, ((b, bottom), end))), rest))))))) =
+    (lines, spacing, top, bottom)
 
 head-typed : (h : Head) → h .row .0 < 2 ^ 64 → h .column < 2 ^ 64 → Typed head.the-row h
 head-typed h r c = (_, (_, (refl, ((_, (refl, ((refl, r), tt))), ((refl, c), (refl, (refl, (refl, tt))))))))
@@ -109,7 +142,7 @@ tabs-held t (vs, (vss, (row, ((l, low), ((h, high), end))))) = record { low = lo
 
 state-typed : (p : Printer) → HeldState p → Typed printer.the-row p
 state-typed p h =
-    let f : Typed form.the-row (p .form) = form-typed (p .form) (h .lines) (h .spacing) in
+    let f : Typed form.the-row (p .form) = form-typed (p .form) (h .lines) (h .spacing) (h .top) (h .bottom) in
     let q : Typed pending.the-row (p .pending) = pending-typed (p .pending) (h .pending) in
     let at : Typed head.the-row (p .head) = head-typed (p .head) (h .row) (h .column) in
     let s : Typed style.the-row (p .style) = style-typed (p .style) in
@@ -123,6 +156,8 @@ state-held p (vs, (vss, (row, (in-model, (in-form, ((j, job), (in-pending, (in-h
     record {
       lines = f .0;
       spacing = f .1;
+      top = f .2;
+      bottom = f .3;
       job = job;
       pending = pending-held (p .pending) (_, in-pending);
       row = h .0;

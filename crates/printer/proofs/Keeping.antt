@@ -1,41 +1,46 @@
--- What the rules leave alone: no command touches the model, the form, the count of the job or what is pending, and no byte touches the model or the form.
+-- What the rules leave alone: no command touches the model, the count of the job or what is pending, and no byte touches the form but one that
+-- finishes a page.
 use Prim.Native.Nat.{ℕ, _+_}
 use mathlib.Core.Bool.{Bool, true, false, cond}
 use mathlib.Core.List.{List, [], _∷_}
-use mathlib.Core.Path.{_≡_, refl, ap, _∙_}
+use mathlib.Core.Path.{_∙_, _≡_, ap, refl, subst}
 use native.Mathlib.Omega.{arith}
 use lib.ListN.{length}
 use Rattle.sheet.specs.declared.Form.{Form}
 use Rattle.sheet.specs.declared.Model.{Model}
 use Rattle.sheet.specs.Edition.{Edition}
+use Rattle.printer.specs.Brackets.{bracket, reform, reformed, resize, respace, style}
 use Rattle.printer.specs.declared.Event.{Event}
 use Rattle.printer.specs.declared.Event.the-variants.{Quiet, Finished, Noted}
+use Rattle.printer.specs.declared.Fault.{Fault}
 use Rattle.printer.specs.declared.Pending.{Pending}
 use Rattle.printer.specs.declared.Pending.the-variants.{Nothing, Escape, Tabs, Reset, Select, SelectLow, CountHigh, CountLow, AddressHigh}
-use Rattle.printer.specs.declared.Pending.the-variants.{AddressLow, Payload}
+use Rattle.printer.specs.declared.Pending.the-variants.{AddressLow, Payload, Bracket}
 use Rattle.printer.specs.declared.Printer.{Printer}
 use Rattle.printer.specs.declared.NextTab.{NextTab}
 use Rattle.printer.specs.declared.NextTab.the-variants.{Tabbed, Untabbed}
 use Rattle.printer.specs.Alone.{alone, text-byte}
-use Rattle.printer.specs.Bytes.{act, first-byte, payload-byte, run, second-byte, step, tab-byte, text-escape}
-use Rattle.printer.specs.Commands.{Command, byte, escaped, loading, obey, resetting, selecting, set-tabs, tab-list}
+use Rattle.printer.specs.Bytes.{act, bracket-byte, first-byte, payload-byte, run, second-byte, step, tab-byte, text-escape}
+use Rattle.printer.specs.Commands.{Command, bracketed, byte, escaped, loading, obey, resetting, selecting, set-tabs, tab-list}
 use Rattle.printer.specs.Downloads.{download}
-use Rattle.printer.specs.Escapes.{after-reset, clear-tabs, escape, in-turn, reset, select, tab, tab-here, tab-item}
+use Rattle.printer.specs.Escapes.{after-reset, clear-tabs, escape, in-turn, repitched, reset, select, tab, tab-here, tab-item}
 use Rattle.printer.specs.Machine.{Machine, with-job}
 use Rattle.printer.specs.Plotting.{plot, plot-byte, plot-escape}
 use Rattle.printer.specs.Printing.{print}
-use Rattle.printer.specs.Steps.{Step, tell, tell-step}
+use Rattle.printer.specs.Steps.{Step, finished, noted, quiet, tell, tell-step}
 use Rattle.printer.specs.Terminators.{carriage-return, form-feed, newline, strike, tab-to, vertical-tab}
+use Rattle.printer.specs.declared.Setting.{Setting}
+use Rattle.printer.specs.declared.Setting.the-variants.{Given, Omitted}
+use Rattle.printer.specs.declared.Settings.{Settings}
 
 -- what no command touches
 pub record Kept : Type 0 where
   pub model : Model
-  pub form : Form
   pub job : ℕ
   pub pending : Pending
 
 abbrev pub kept : Machine → Kept
-kept m = record { model = m .printer .model; form = m .printer .form; job = m .printer .job; pending = m .printer .pending }
+kept m = record { model = m .printer .model; job = m .printer .job; pending = m .printer .pending }
 
 abbrev pub Keeps : Kept → Step → Type 0
 Keeps k s = kept (s .machine) ≡ k
@@ -70,9 +75,23 @@ module _ (e : Edition) {k : Kept} where
   set-tabs-keeps [] place m h = h
   set-tabs-keeps (n ∷ ns) place m h = set-tabs-keeps ns (place + 1) _ (tell-step-keeps (tab-item n place m) (tab-item-keeps n place m h))
 
+  style-keeps : (s : Setting) (place : ℕ) (m : Machine) → kept m ≡ k → Keeps k (style e s place m)
+  unfolding style repitched in-turn
+  style-keeps Omitted place m h = h
+  style-keeps (Given v) place m h = search keeps-cond depth 10
+
+  respace-keeps : (s : Setting) (place : ℕ) (m : Machine) → kept m ≡ k → Keeps k (respace e s place m)
+  unfolding respace reform reformed
+  respace-keeps Omitted place m h = h
+  respace-keeps (Given v) place m h = search keeps-cond depth 10
+
+  bracket-keeps : (s : Settings) (last place : ℕ) (m : Machine) → kept m ≡ k → Keeps k (bracket e s last place m)
+  unfolding bracket resize reform reformed
+  bracket-keeps s last place m h = search (keeps-cond, style-keeps, respace-keeps) depth 10
+
   -- a whole command
   pub obey-keeps : (font : List ℕ) (c : Command) (place : ℕ) (m : Machine) → kept m ≡ k → kept (obey e font c place m .machine) ≡ k
-  unfolding obey alone text-byte print newline vertical-tab form-feed carriage-return strike plot-byte plot escape in-turn tab-here tab
+  unfolding obey alone text-byte print newline vertical-tab form-feed carriage-return strike plot-byte plot escape repitched in-turn tab-here tab
       plot-escape clear-tabs after-reset reset select download
   obey-keeps font (byte b) place m h = search (tell-step-keeps, keeps-cond, tab-to-keeps) depth 20
   obey-keeps font (escaped b) place m h = search (tell-step-keeps, keeps-cond) depth 20
@@ -80,45 +99,84 @@ module _ (e : Edition) {k : Kept} where
   obey-keeps font (resetting b) place m h = search (tell-step-keeps, keeps-cond) depth 20
   obey-keeps font (selecting high low) place m h = search (tell-step-keeps, keeps-cond) depth 20
   obey-keeps font (loading count address payload checksum) place m h = search (tell-step-keeps, keeps-cond) depth 20
+  obey-keeps font (bracketed bs last) place m h = search (tell-step-keeps, bracket-keeps)
 
--- a state has this model, this form and so many bytes of the job
-pub record Counts (w : Model) (f : Form) (j : ℕ) (p : Printer) : Type 0 where
-  pub model : p .model ≡ w
-  pub form : p .form ≡ f
-  pub job : p .job ≡ j
+-- a form that stays, unless a page is finished
+abbrev pub Stays : Event → Form → Form → Type 0
+Stays Finished f g = Unit {0}
+Stays Quiet f g = g ≡ f
+Stays (Noted fault place) f g = g ≡ f
 
-counts-cond : {w : Model} {f : Form} {j : ℕ} (t : Bool) (s u : Step) → Counts w f j (s .machine .printer) → Counts w f j (u .machine .printer)
-    → Counts w f j (cond t s u .machine .printer)
-counts-cond true s u h h′ = h
-counts-cond false s u h h′ = h′
+-- the model, the form and the count of the job that a step leaves
+pub record Counts (w : Model) (f : Form) (j : ℕ) (s : Step) : Type 0 where
+  pub model : s .machine .printer .model ≡ w
+  pub form : Stays (s .event) f (s .machine .printer .form)
+  pub job : s .machine .printer .job ≡ j
 
-tab-to-counts : (e : Edition) (below lowest : NextTab) (m : Machine)
-    → Counts (m .printer .model) (m .printer .form) (m .printer .job) (tab-to e below lowest m .machine .printer)
-tab-to-counts e below lowest m =
-    let h : Keeps (kept m) (tab-to e below lowest m) = tab-to-keeps e below lowest m refl in
-    record { model = ap (λ (k : Kept). k .model) h; form = ap (λ (k : Kept). k .form) h; job = ap (λ (k : Kept). k .job) h }
+module _ {w : Model} {f : Form} {j : ℕ} where
+  counts-cond : (t : Bool) (s u : Step) → Counts w f j s → Counts w f j u → Counts w f j (cond t s u)
+  counts-cond true s u h h′ = h
+  counts-cond false s u h h′ = h′
 
-act-counts : (e : Edition) (font : List ℕ) (q : Pending) (b here : ℕ) (m : Machine)
-    → Counts (m .printer .model) (m .printer .form) (m .printer .job) (act e font q b here m .machine .printer)
-unfolding act first-byte second-byte text-escape tab-byte payload-byte alone text-byte print newline vertical-tab form-feed carriage-return
-    strike plot-byte plot escape in-turn tab-here tab plot-escape clear-tabs after-reset reset select download tab-item
-act-counts e font Nothing b here m = search (counts-cond, tab-to-counts) depth 20
-act-counts e font (Escape place) b here m = search counts-cond depth 20
-act-counts e font (Tabs place) b here m = search counts-cond depth 20
-act-counts e font (Reset place) b here m = search counts-cond depth 20
-act-counts e font (Select place) b here m = record { model = refl; form = refl; job = refl }
-act-counts e font (SelectLow place high) b here m = search counts-cond depth 20
-act-counts e font (CountHigh place) b here m = record { model = refl; form = refl; job = refl }
-act-counts e font (CountLow place high) b here m = record { model = refl; form = refl; job = refl }
-act-counts e font (AddressHigh place count) b here m = record { model = refl; form = refl; job = refl }
-act-counts e font (AddressLow place count high) b here m = record { model = refl; form = refl; job = refl }
-act-counts e font (Payload place load) b here m = search counts-cond depth 20
+  counts-quiet : (m : Machine) → m .printer .model ≡ w → m .printer .form ≡ f → m .printer .job ≡ j → Counts w f j (quiet m)
+  counts-quiet m p q r = record { model = p; form = q; job = r }
 
--- a step keeps the model and the form and counts its byte
+  counts-noted : {fault : Fault} {place : ℕ} (m : Machine) → m .printer .model ≡ w → m .printer .form ≡ f → m .printer .job ≡ j
+      → Counts w f j (noted fault place m)
+  counts-noted m p q r = record { model = p; form = q; job = r }
+
+  counts-finished : (m : Machine) → m .printer .model ≡ w → m .printer .job ≡ j → Counts w f j (finished m)
+  counts-finished m p r = record { model = p; form = tt; job = r }
+
+ruleset counting = (counts-cond, counts-quiet, counts-noted, counts-finished)
+
+abbrev Counted : Machine → Step → Type 0
+Counted m s = Counts (m .printer .model) (m .printer .form) (m .printer .job) s
+
+tab-to-counts : (e : Edition) (below lowest : NextTab) (m : Machine) → Counted m (tab-to e below lowest m)
+unfolding tab-to carriage-return strike
+tab-to-counts e (Tabbed n) lowest m = record { model = refl; form = refl; job = refl }
+tab-to-counts e Untabbed (Tabbed n) m = record { model = refl; form = tt; job = refl }
+tab-to-counts e Untabbed Untabbed m = record { model = refl; form = refl; job = refl }
+
+module _ (e : Edition) {w : Model} {f : Form} {j : ℕ} (place : ℕ) (m : Machine) (p : m .printer .model ≡ w) (q : m .printer .form ≡ f)
+    (r : m .printer .job ≡ j) where
+  style-counts : (s : Setting) → Counts w f j (style e s place m)
+  unfolding style repitched in-turn
+  style-counts Omitted = counts-noted m p q r
+  style-counts (Given v) = search counting depth 10
+
+  respace-counts : (s : Setting) → Counts w f j (respace e s place m)
+  unfolding respace reform reformed
+  respace-counts Omitted = counts-noted m p q r
+  respace-counts (Given v) = search counting depth 10
+
+act-counts : (e : Edition) (font : List ℕ) (q : Pending) (b here : ℕ) (m : Machine) → Counted m (act e font q b here m)
+unfolding act first-byte second-byte text-escape tab-byte payload-byte bracket-byte alone text-byte print newline vertical-tab form-feed
+    carriage-return strike plot-byte plot escape repitched in-turn tab-here tab plot-escape clear-tabs after-reset reset select download tab-item
+    bracket resize reform reformed
+act-counts e font Nothing b here m = search (counting, tab-to-counts) depth 20
+act-counts e font (Escape place) b here m = search counting depth 20
+act-counts e font (Tabs place) b here m = search counting depth 20
+act-counts e font (Reset place) b here m = search counting depth 20
+act-counts e font (Select place) b here m = search counting
+act-counts e font (SelectLow place high) b here m = search counting depth 20
+act-counts e font (CountHigh place) b here m = search counting
+act-counts e font (CountLow place high) b here m = search counting
+act-counts e font (AddressHigh place count) b here m = search counting
+act-counts e font (AddressLow place count high) b here m = search counting
+act-counts e font (Payload place load) b here m = search counting depth 20
+act-counts e font (Bracket place settings) b here m = search (counting, style-counts, respace-counts) depth 20
+
+-- a step keeps the model and, unless it finishes a page, the form, and counts its byte
 pub step-counts : (e : Edition) (font : List ℕ) (b : ℕ) (m : Machine)
-    → Counts (m .printer .model) (m .printer .form) (m .printer .job + 1) (step e font b m .machine .printer)
+    → Counts (m .printer .model) (m .printer .form) (m .printer .job + 1) (step e font b m)
 unfolding step
 step-counts e font b m = act-counts e font (m .printer .pending) b (m .printer .job) (with-job (m .printer .job + 1) m)
+
+-- a quiet step keeps the form
+pub quiet-form : {w : Model} {f : Form} {j : ℕ} {s : Step} → Counts w f j s → s .event ≡ Quiet → s .machine .printer .form ≡ f
+quiet-form {f = f} {s = s} h q = subst (λ (v : Event). Stays v f (s .machine .printer .form)) q (h .form)
 
 pub tell-printer : (e : Edition) (v : Event) (m : Machine) → tell e v m .machine .printer ≡ m .printer
 unfolding tell
@@ -126,11 +184,15 @@ tell-printer e Quiet m = refl
 tell-printer e Finished m = refl
 tell-printer e (Noted f place) m = refl
 
--- a run keeps the model and the form and counts its bytes
+-- a run keeps the model and counts its bytes
+pub record RunCounts (w : Model) (j : ℕ) (p : Printer) : Type 0 where
+  pub model : p .model ≡ w
+  pub job : p .job ≡ j
+
 pub run-counts : (e : Edition) (font bs : List ℕ) (m : Machine)
-    → Counts (m .printer .model) (m .printer .form) (m .printer .job + length bs) (run e font bs m .machine .printer)
+    → RunCounts (m .printer .model) (m .printer .job + length bs) (run e font bs m .machine .printer)
 unfolding run tell-step
-run-counts e font [] m = record { model = refl; form = refl; job = omega arith }
+run-counts e font [] m = record { model = refl; job = omega arith }
 run-counts e font (b ∷ bs) m =
     let s : Step = step e font b m in
     let n : Machine = tell e (s .event) (s .machine) .machine in
@@ -139,6 +201,5 @@ run-counts e font (b ∷ bs) m =
     let on = run-counts e font bs n in
     record {
       model = on .model ∙ ap (λ (q : Printer). q .model) p ∙ k .model;
-      form = on .form ∙ ap (λ (q : Printer). q .form) p ∙ k .form;
       job = omega (arith, on .job, ap (λ (q : Printer). q .job) p, k .job);
     }

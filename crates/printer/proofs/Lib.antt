@@ -4,6 +4,8 @@ pub mod Appending
 pub mod Keeping
 pub mod Resuming
 pub mod TabLists
+pub mod BracketTexts
+pub mod Capped
 pub mod Payloads
 pub mod Shorter
 pub mod Readings

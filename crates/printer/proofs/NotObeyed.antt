@@ -5,6 +5,7 @@ use mathlib.Core.List.{List}
 use mathlib.Core.Path.{_≡_, refl, subst, sym, _∙_}
 use borrow.Author.Tests.{not-false}
 use Rattle.sheet.specs.Edition.{Edition}
+use Rattle.printer.specs.Brackets.{bracket, reform, resize, respace, style}
 use Rattle.printer.specs.declared.Event.{Event}
 use Rattle.printer.specs.declared.Event.the-variants.{Quiet, Finished, Noted}
 use Rattle.printer.specs.declared.Fault.{Fault}
@@ -12,17 +13,20 @@ use Rattle.printer.specs.declared.NextTab.{NextTab}
 use Rattle.printer.specs.declared.NextTab.the-variants.{Tabbed, Untabbed}
 use Rattle.printer.specs.declared.Pending.{Pending}
 use Rattle.printer.specs.declared.Pending.the-variants.{Nothing, Escape, Tabs, Reset, Select, SelectLow, CountHigh, CountLow, AddressHigh}
-use Rattle.printer.specs.declared.Pending.the-variants.{AddressLow, Payload}
+use Rattle.printer.specs.declared.Pending.the-variants.{AddressLow, Payload, Bracket}
 use Rattle.printer.specs.Alone.{alone, text-byte}
-use Rattle.printer.specs.Bytes.{act, first-byte, payload-byte, second-byte, step, tab-byte, text-escape}
+use Rattle.printer.specs.Bytes.{act, bracket-byte, first-byte, payload-byte, second-byte, step, tab-byte, text-escape}
 use Rattle.printer.specs.Downloads.{download}
-use Rattle.printer.specs.Escapes.{escape, in-turn, reset, select, tab-item}
+use Rattle.printer.specs.Escapes.{escape, in-turn, repitched, reset, select, tab-item}
 use Rattle.printer.specs.Machine.{Machine, with-job, with-pending}
 use Rattle.printer.specs.Notes.{Untouched, ends-command, in-list, first-place, left-pending, note-place, passed-over}
 use Rattle.printer.specs.Plotting.{plot, plot-byte, plot-escape}
 use Rattle.printer.specs.Printing.{print}
 use Rattle.printer.specs.Steps.{Step}
 use Rattle.printer.specs.Terminators.{carriage-return, form-feed, newline, tab-to, vertical-tab}
+use Rattle.printer.specs.declared.Setting.{Setting}
+use Rattle.printer.specs.declared.Setting.the-variants.{Given, Omitted}
+use Rattle.printer.specs.declared.Settings.{Settings}
 
 -- what is asked of a byte's event and of the machine after it, by the machine m before it: of a note alone
 abbrev Passed : Machine → Event → Machine → Type 0
@@ -44,10 +48,29 @@ tab-to-passes m e (Tabbed k) lowest n = tt
 tab-to-passes m e Untabbed (Tabbed k) n = tt
 tab-to-passes m e Untabbed Untabbed n = tt
 
+-- the commands of ESC [ that look at one number
+module _ (e : Edition) (m : Machine) (place : ℕ) (all : Settings) where
+  abbrev begun-here : Machine
+  begun-here = with-pending (Bracket place all) m
+
+  abbrev whole-here : Machine
+  whole-here = with-pending Nothing (with-job (m .printer .job + 1) m)
+
+  style-passes : (s : Setting) → Passes begun-here (style e s place whole-here)
+  unfolding style repitched in-turn passed-over note-place left-pending first-place ends-command
+  style-passes Omitted = (refl, refl, refl)
+  style-passes (Given v) = search passes-cond depth 10
+
+  respace-passes : (s : Setting) → Passes begun-here (respace e s place whole-here)
+  unfolding respace reform passed-over note-place left-pending first-place ends-command
+  respace-passes Omitted = (refl, refl, refl)
+  respace-passes (Given v) = search passes-cond depth 10
+
 act-passes : (e : Edition) (font : List ℕ) (b : ℕ) (m : Machine) (q : Pending)
     → Passes (with-pending q m) (act e font q b (m .printer .job) (with-pending q (with-job (m .printer .job + 1) m)))
-unfolding act first-byte second-byte text-escape tab-byte payload-byte alone text-byte print newline vertical-tab form-feed carriage-return
-    plot-byte plot escape in-turn plot-escape reset select download tab-item passed-over note-place left-pending first-place ends-command
+unfolding act first-byte second-byte text-escape tab-byte payload-byte bracket-byte bracket resize reform alone text-byte print newline vertical-tab
+    form-feed carriage-return plot-byte plot escape repitched in-turn plot-escape reset select download tab-item passed-over note-place left-pending
+    first-place ends-command
 act-passes e font b m Nothing = search (passes-cond, tab-to-passes) depth 20
 act-passes e font b m (Escape place) = search passes-cond depth 20
 act-passes e font b m (Tabs place) = search passes-cond depth 20
@@ -59,6 +82,7 @@ act-passes e font b m (CountLow place high) = tt
 act-passes e font b m (AddressHigh place count) = tt
 act-passes e font b m (AddressLow place count high) = tt
 act-passes e font b m (Payload place load) = search passes-cond depth 20
+act-passes e font b m (Bracket place settings) = search (passes-cond, style-passes e m place settings, respace-passes e m place settings) depth 20
 
 step-passes : (e : Edition) (font : List ℕ) (b : ℕ) (m : Machine) → Passes m (step e font b m)
 unfolding step

@@ -2,28 +2,33 @@
 use Prim.Native.Nat.{ℕ, _+_}
 use mathlib.Core.Bool.{Bool, true, false, cond, not, _&&_, _||_, and-eq-true-iff, true≢false}
 use mathlib.Core.List.{List, [], _∷_}
-use mathlib.Core.Path.{_≡_, refl, sym, ap, _∙_}
+use mathlib.Core.Path.{_∙_, _≡_, ap, refl, sym}
 use native.Mathlib.Omega.{arith}
 use borrow.Author.Tests.{eqb-false, eqb-true, leb-true, ne-eqb}
 use lib.Dec.{eqb, ltb}
+use lib.ListN.{length}
+use Rattle.sheet.proofs.Struck.{length-struck}
 use Rattle.sheet.specs.Dots.{struck}
 use Rattle.sheet.specs.Edition.{Edition}
 use Rattle.sheet.specs.Form.{fits}
+use Rattle.printer.specs.Brackets.{bracket, reform, reformed, resize, respace, style}
 use Rattle.printer.specs.declared.Pending.{Pending}
 use Rattle.printer.specs.declared.Pending.the-variants.{Nothing, Escape, Tabs, Reset, Select, SelectLow, CountHigh, CountLow, AddressHigh}
-use Rattle.printer.specs.declared.Pending.the-variants.{AddressLow, Payload}
+use Rattle.printer.specs.declared.Pending.the-variants.{AddressLow, Payload, Bracket}
 use Rattle.printer.specs.declared.NextTab.{NextTab}
 use Rattle.printer.specs.declared.NextTab.the-variants.{Tabbed, Untabbed}
 use Rattle.printer.specs.Alone.{alone, prints, text-byte}
-use Rattle.printer.specs.Bytes.{act, first-byte, payload-byte, second-byte, step, tab-byte, text-escape}
+use Rattle.printer.specs.Bytes.{act, bracket-byte, first-byte, payload-byte, second-byte, step, tab-byte, text-escape}
 use Rattle.printer.specs.Downloads.{download}
-use Rattle.printer.specs.Escapes.{after-reset, clear-tabs, escape, in-turn, reset, select, tab, tab-here, tab-item}
+use Rattle.printer.specs.Escapes.{after-reset, clear-tabs, escape, in-turn, repitched, reset, select, tab, tab-here, tab-item}
 use Rattle.printer.specs.Machine.{Machine, with-job}
 use Rattle.printer.specs.Plotting.{plot, plots, plot-byte, plot-escape}
 use Rattle.printer.specs.Printing.{print}
 use Rattle.printer.specs.Steps.{Step}
 use Rattle.printer.specs.Strikes.{Strike, idle, in-progress, strike-all, strikes, strikes-of, terminator}
 use Rattle.printer.specs.Terminators.{carriage-return, form-feed, newline, strike, tab-to, vertical-tab}
+use Rattle.printer.specs.declared.Setting.{Setting}
+use Rattle.printer.specs.declared.Setting.the-variants.{Given, Omitted}
 
 -- a step that leaves a page
 abbrev Leaves : List ℕ → Step → Type 0
@@ -110,9 +115,19 @@ module _ (e : Edition) (font : List ℕ) (b here : ℕ) (m : Machine) where
   begins false q = refl
   begins true q = rw (eqb-true b 0x1b q)
 
+  style-page : (s : Setting) (place : ℕ) (n : Machine) → n .page ≡ m .page → Leaves (m .page) (style e s place n)
+  unfolding style repitched in-turn
+  style-page Omitted place n h = h
+  style-page (Given v) place n h = search leaves-cond depth 10
+
+  respace-page : (s : Setting) (place : ℕ) (n : Machine) → n .page ≡ m .page → Leaves (m .page) (respace e s place n)
+  unfolding respace reform reformed
+  respace-page Omitted place n h = h
+  respace-page (Given v) place n h = search leaves-cond depth 10
+
   act-page : (q : Pending) → Leaves (left-by e m (idle q && not (m .printer .head .plotting) && terminator b)) (act e font q b here m)
-  unfolding act first-byte second-byte text-escape tab-byte payload-byte alone escape in-turn tab-here tab plot-escape clear-tabs after-reset reset
-      select download tab-item
+  unfolding act first-byte second-byte text-escape tab-byte payload-byte bracket-byte bracket resize reform reformed alone escape repitched in-turn
+      tab-here tab plot-escape clear-tabs after-reset reset select download tab-item
   act-page Nothing = leaves-test (eqb b 0x1b) _ _ (begins (not (m .printer .head .plotting))) (λ _. by-mode (m .printer .head .plotting))
   act-page (Escape place) = search (leaves-cond, plot-page) depth 20
   act-page (Tabs place) = search leaves-cond
@@ -124,6 +139,7 @@ module _ (e : Edition) (font : List ℕ) (b here : ℕ) (m : Machine) where
   act-page (AddressHigh place count) = refl
   act-page (AddressLow place count high) = refl
   act-page (Payload place load) = search leaves-cond depth 10
+  act-page (Bracket place settings) = search (leaves-cond, style-page, respace-page) depth 10
 
 -- one strike or none
 strike-if : (e : Edition) (s : Strike) (page : List ℕ) (t : Bool)
@@ -138,3 +154,14 @@ unfolding step strikes-of strikes
 step-page e font b m =
     act-page e font b (m .printer .job) (with-job (m .printer .job + 1) m) (m .printer .pending)
     ∙ sym (strike-if e (in-progress m) (m .page) (strikes b m))
+
+-- lines struck leave the page as long as it was
+pub length-strike-all : (e : Edition) (ss : List Strike) (page : List ℕ) → length (strike-all e ss page) ≡ length page
+unfolding strike-all
+length-strike-all e [] page = refl
+length-strike-all e (s ∷ ss) page =
+    length-strike-all e ss (struck e page (s .line) (s .row) (s .pitch)) ∙ length-struck e page (s .line) (s .row) (s .pitch)
+
+-- and so does a byte
+pub step-page-length : (e : Edition) (font : List ℕ) (b : ℕ) (m : Machine) → length (step e font b m .machine .page) ≡ length (m .page)
+step-page-length e font b m = ap length (step-page e font b m) ∙ length-strike-all e (strikes-of b m) (m .page)

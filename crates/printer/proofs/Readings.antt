@@ -1,6 +1,6 @@
 -- The bytes one at a time do what the commands do: from every machine with nothing pending a run is the whole-job reading.
 use Prim.Native.Nat.{ℕ, zero, suc, _+_, _-_, _*_, _≤_}
-use mathlib.Core.Bool.{Bool, true, false, cond}
+use mathlib.Core.Bool.{Bool, _&&_, cond, false, true}
 use mathlib.Core.List.{List, [], _∷_}
 use mathlib.Core.Path.{_≡_, refl, sym, ap, subst, _∙_}
 use native.Mathlib.Nat.{zero-add}
@@ -8,17 +8,19 @@ use native.Mathlib.Omega.{arith}
 use lib.Dec.{eqb}
 use lib.ListN.{drop, length, length-drop, take}
 use Rattle.sheet.specs.Edition.{Edition}
+use Rattle.printer.specs.Brackets.{no-settings, settings}
 use Rattle.printer.specs.declared.Pending.{Pending}
-use Rattle.printer.specs.declared.Pending.the-variants.{Nothing, Escape, Tabs, Reset, Select, CountHigh}
+use Rattle.printer.specs.declared.Pending.the-variants.{Bracket, CountHigh, Escape, Nothing, Reset, Select, Tabs}
 use Rattle.printer.specs.Alone.{alone}
 use Rattle.printer.specs.Bytes.{act, first-byte, run, second-byte, step, text-escape, waiting}
 use Rattle.printer.specs.Commands.{Cut, Items, byte, cut, cut-checksum, cut-download, cut-escape, cut-reset, cut-select, cut-tabs, unended}
 use Rattle.printer.specs.Commands.{escaped, items, leave, leave-download, leave-select, listed, obey, read, read-cut, reading, set-tabs}
-use Rattle.printer.specs.Commands.{unfinished, whole}
+use Rattle.printer.specs.Commands.{Text, cut-bracket, ending, endless, text, unfinished, whole}
 use Rattle.printer.specs.Escapes.{clear-tabs, escape}
 use Rattle.printer.specs.Machine.{Machine, with-job, with-pending}
 use Rattle.printer.specs.Plotting.{plot-escape}
 use Rattle.printer.specs.Steps.{Outcome, before, silent, tell, tell-step, then}
+use Rattle.printer.proofs.BracketTexts.{Spanned, after-text, text-run, text-spanned}
 use Rattle.printer.proofs.Keeping.{Kept, obey-keeps}
 use Rattle.printer.proofs.Payloads.{after-payload, payload-run}
 use Rattle.printer.proofs.Resuming.{at, counts}
@@ -70,6 +72,17 @@ module _ (e : Edition) (font : List ℕ) where
     select-cut x (h ∷ []) = simp counts
     select-cut x (h ∷ l ∷ rest) = let s : j + 1 + 1 + 1 + 1 ≡ j + (suc (suc (suc (suc (length rest)))) - length rest) = omega arith in rw s
 
+    bracket-cut : (x : ℕ) (bs : List ℕ) (t : Text) → Spanned bs t
+        → after-text e font j t bs no-settings (j + 1 + 1) m
+        ≡ resume (cut-bracket t) (x ∷ bs) (at j Nothing m) (silent (at (all-came bs) (Bracket j (settings bs no-settings)) m))
+    unfolding after-text cut-bracket resume obey
+    bracket-cut x bs (ending ts last rest) h =
+        let s : j + 1 + 1 + suc (length ts) ≡ j + (suc (suc (length bs)) - length rest) = omega arith in
+        rw s
+    bracket-cut x bs endless h =
+        let s : j + 1 + 1 + length bs ≡ all-came bs = omega arith in
+        rw s
+
     payload-cut : (x a b c d : ℕ) (bs rest : List ℕ) → drop (a * 256 + b) bs ≡ rest
         → after-payload e font j (a * 256 + b) (c * 256 + d) rest (a * 256 + b) bs 0 0 (j + 1 + 1 + 1 + 1 + 1 + 1) m
         ≡ resume (cut-checksum (a * 256 + b) (c * 256 + d) (take (a * 256 + b) bs) rest) (x ∷ a ∷ b ∷ c ∷ d ∷ bs) (at j Nothing m)
@@ -97,40 +110,44 @@ module _ (e : Edition) (font : List ℕ) where
 
     -- the byte b after ESC, and the bytes bs after it
     module _ (b : ℕ) (bs : List ℕ) where
-      -- outside plot mode, by the four tests of the byte
-      letter-cut : (t₁ t₂ t₃ t₄ : Bool) → m .printer .head .plotting ≡ false
+      -- outside plot mode, by the five tests of the byte; one that fails all of them is a whole command
+      letter-cut : (t₁ t₂ t₃ t₄ t₅ : Bool) → m .printer .head .plotting ≡ false
           → then
           (tell-step e
           (cond t₁ (waiting (Tabs j) (clear-tabs (at (j + 1 + 1) (Escape j) m)))
           (cond t₂ (waiting (Reset j) (at (j + 1 + 1) (Escape j) m))
           (cond t₃ (waiting (CountHigh j) (at (j + 1 + 1) (Escape j) m))
           (cond t₄ (waiting (Select j) (at (j + 1 + 1) (Escape j) m))
-          (escape b j (at (j + 1 + 1) Nothing m)))))))
+          (cond t₅ (waiting (Bracket j no-settings) (at (j + 1 + 1) (Escape j) m))
+          (escape e b j (at (j + 1 + 1) Nothing m))))))))
           (run e font bs)
           ≡ resume
-          (cond t₁ (cut-tabs (items bs)) (cond t₂ (cut-reset bs) (cond t₃ (cut-download bs) (cond t₄ (cut-select bs) (whole (escaped b) bs)))))
+          (cond t₁ (cut-tabs (items bs)) (cond t₂ (cut-reset bs) (cond t₃ (cut-download bs)
+          (cond t₄ (cut-select bs) (cond t₅ (cut-bracket (text bs)) (whole (escaped b) bs))))))
           (b ∷ bs) (at j Nothing m)
           (cond t₁ (set-tabs e bs (j + 2) (clear-tabs (at (all-came bs) (Tabs j) m)))
           (cond t₂ (silent (at (all-came bs) (Reset j) m))
           (cond t₃ (silent (leave-download e font bs j (at (all-came bs) Nothing m)))
-          (silent (leave-select e font bs j (at (all-came bs) Nothing m))))))
+          (cond t₄ (silent (leave-select e font bs j (at (all-came bs) Nothing m)))
+          (silent (at (all-came bs) (Bracket j (settings bs no-settings)) m))))))
       unfolding tell-step tell clear-tabs resume obey
-      letter-cut true t₂ t₃ t₄ h = tabs-run e font j bs (j + 1 + 1) (clear-tabs m) ∙ tabs-cut b bs (items bs) (items-counted bs)
-      letter-cut false true t₃ t₄ h = reset-cut b bs
-      letter-cut false false true t₄ h = download-cut b bs
-      letter-cut false false false true h = select-cut b bs
-      letter-cut false false false false h = simp (h, counts)
+      letter-cut true t₂ t₃ t₄ t₅ h = tabs-run e font j bs (j + 1 + 1) (clear-tabs m) ∙ tabs-cut b bs (items bs) (items-counted bs)
+      letter-cut false true t₃ t₄ t₅ h = reset-cut b bs
+      letter-cut false false true t₄ t₅ h = download-cut b bs
+      letter-cut false false false true t₅ h = select-cut b bs
+      letter-cut false false false false true h = text-run e font j bs no-settings (j + 1 + 1) m ∙ bracket-cut b bs (text bs) (text-spanned bs)
+      letter-cut false false false false false h = simp (h, counts)
 
       escape-run : (t : Bool) → m .printer .head .plotting ≡ t
-          → then (tell-step e (cond t (plot-escape e b j (at (j + 1 + 1) Nothing m)) (text-escape b j (at (j + 1 + 1) (Escape j) m)))) (run e font bs)
-          ≡ read-cut e font (run e font) (cut-escape t (b ∷ bs)) (b ∷ bs) (at j Nothing m)
+          → then (tell-step e (cond t (plot-escape e b j (at (j + 1 + 1) Nothing m)) (text-escape e b j (at (j + 1 + 1) (Escape j) m)))) (run e font bs)
+          ≡ read-cut e font (run e font) (cut-escape e t (b ∷ bs)) (b ∷ bs) (at j Nothing m)
       unfolding text-escape cut-escape leave clear-tabs read-cut obey
       escape-run true h = simp (h, counts)
-      escape-run false h = rw read-cut-resume (letter-cut (eqb b 0x46) (eqb b 0x63) (eqb b 0x59) (eqb b 0x4e) h)
+      escape-run false h = rw read-cut-resume (letter-cut (eqb b 0x46) (eqb b 0x63) (eqb b 0x59) (eqb b 0x4e) (eqb b 0x5b && e .brackets) h)
 
     byte-run : (t : Bool) (b : ℕ) (bs : List ℕ)
         → then (tell-step e (cond t (waiting (Escape j) (at (j + 1) Nothing m)) (alone e font b j (at (j + 1) Nothing m)))) (run e font bs)
-        ≡ read-cut e font (run e font) (cond t (cut-escape (m .printer .head .plotting) bs) (whole (byte b) bs)) bs (at j Nothing m)
+        ≡ read-cut e font (run e font) (cond t (cut-escape e (m .printer .head .plotting) bs) (whole (byte b) bs)) bs (at j Nothing m)
     unfolding tell-step tell run step act second-byte cut-escape read-cut leave obey
     byte-run true b [] = refl
     byte-run true b (c ∷ bs) = escape-run c bs (m .printer .head .plotting) refl
@@ -138,7 +155,7 @@ module _ (e : Edition) (font : List ℕ) where
 
   -- what the bytes do, by the first command that is cut off them
   command-run : (b : ℕ) (bs : List ℕ) (m : Machine)
-      → run e font (b ∷ bs) (with-pending Nothing m) ≡ read-cut e font (run e font) (cut (m .printer .head .plotting) b bs) bs (with-pending Nothing m)
+      → run e font (b ∷ bs) (with-pending Nothing m) ≡ read-cut e font (run e font) (cut e (m .printer .head .plotting) b bs) bs (with-pending Nothing m)
   unfolding run step act first-byte cut
   command-run b bs m = byte-run (m .printer .job) m (eqb b 0x1b) b bs
 
@@ -161,10 +178,10 @@ module _ (e : Edition) (font : List ℕ) where
   run-read zero (b ∷ bs) m l h = absurd (omega arith)
   run-read (suc commands) [] m l h = refl
   run-read (suc commands) (b ∷ bs) m l h =
-      subst (λ (x : Machine). run e font (b ∷ bs) x ≡ read-cut e font (run e font) (cut (x .printer .head .plotting) b bs) bs x)
+      subst (λ (x : Machine). run e font (b ∷ bs) x ≡ read-cut e font (run e font) (cut e (x .printer .head .plotting) b bs) bs x)
       (sym (ap (λ (q : Pending). with-pending q m) h)) (command-run b bs m)
-      ∙ read-cut-same (run e font) (read e font commands) (cut (m .printer .head .plotting) b bs) bs m
-      (short-cut (m .printer .head .plotting) b bs) h (λ rest x k p. run-read commands rest x (omega arith) p)
+      ∙ read-cut-same (run e font) (read e font commands) (cut e (m .printer .head .plotting) b bs) bs m
+      (short-cut e (m .printer .head .plotting) b bs) h (λ rest x k p. run-read commands rest x (omega arith) p)
 
   pub run-reading : (job : List ℕ) (m : Machine) → m .printer .pending ≡ Nothing → run e font job m ≡ reading e font job m
   unfolding reading

@@ -1,22 +1,22 @@
 -- Tabs set, cleared and looked for stay on lines of the form.
-use Prim.Native.Nat.{ℕ, zero, suc, _+_, _≤_, _<_}
+use Prim.Native.Nat.{ℕ, _+_, _<_, _≤_, suc, zero}
 use mathlib.Core.Bool.{Bool, true, false}
 use mathlib.Core.List.{List, [], _∷_}
 use mathlib.Core.Path.{_≡_, refl, sym, subst}
 use native.Mathlib.Omega.{arith}
-use borrow.Author.Tests.{eqb-false, eqb-true}
-use lib.Dec.{T, eqb}
-use lib.ListN.{getD, replicate, set}
+use borrow.Author.Tests.{eqb-false, eqb-true, ltb-false, ltb-true}
+use lib.Dec.{T, eqb, ltb}
+use lib.ListN.{getD, replicate, set, take}
 use lib.Seq.{getD-set-other}
 use Rattle.sheet.specs.declared.Line.{Line}
 use Rattle.sheet.specs.Form.{next-line}
 use Rattle.printer.specs.declared.NextTab.{NextTab}
 use Rattle.printer.specs.declared.NextTab.the-variants.{Tabbed, Untabbed}
 use Rattle.printer.specs.declared.TabSet.{TabSet}
-use Rattle.printer.specs.Tabs.{line-tabs, no-tabs, with-tab, word-tabs}
+use Rattle.printer.specs.Tabs.{line-tabs, no-tabs, tabs-through, with-tab, word-tabs}
 use Rattle.printer.specs.Terminators.{first-tab}
 use Rattle.printer.specs.Facts.{SoundTabs}
-use Rattle.printer.proofs.TabBits.{put-tab}
+use Rattle.printer.proofs.TabBits.{past-through, put-tab}
 
 getD-clear : (n i : ℕ) → getD (replicate n false) i false ≡ false
 getD-clear zero i = refl
@@ -39,14 +39,28 @@ pub tab-put : {lines : ℕ} (t : TabSet) → SoundTabs lines (line-tabs t) → (
     → SoundTabs lines (line-tabs (with-tab on k t))
 tab-put {lines} t h on k l = subst (λ (tabs : List Bool). SoundTabs lines tabs) (sym (put-tab on k t)) (tab-set h on k l)
 
--- a stop is a line of the form
-abbrev pub Inside : ℕ → NextTab → Type 0
-Inside lines (Tabbed n) = (1 ≤ n .0) × (n .0 ≤ lines)
-Inside lines Untabbed = Unit {0}
+pub tabs-kept : (lines : ℕ) (t : TabSet) → SoundTabs lines (line-tabs (tabs-through lines t))
+tabs-kept lines t = record { inside = λ i k. go i k (ltb i lines) refl }
+  where
+    go : (i : ℕ) → T (getD (line-tabs (tabs-through lines t)) i false) → (b : Bool) → ltb i lines ≡ b → i < lines
+    go i k true q = ltb-true _ _ q
+    go i k false q = absurd (subst T (past-through lines t i (ltb-false _ _ q)) k)
 
-pub first-tab-inside : (lines : ℕ) (n : Line) (tabs : List Bool) → 1 ≤ n .0 → ((i : ℕ) → T (getD tabs i false) → n .0 + i ≤ lines)
-    → Inside lines (first-tab n tabs)
+-- tabs down to a line stand down to it
+pub taken-inside : (n : ℕ) (tabs : List Bool) (i : ℕ) → T (getD (take n tabs) i false) → i < n
+taken-inside zero tabs i t = absurd t
+taken-inside (suc n) [] i t = absurd t
+taken-inside (suc n) (x ∷ xs) zero t = omega arith
+taken-inside (suc n) (x ∷ xs) (suc i) t = omega (arith, taken-inside n xs i t)
+
+-- a stop is a line within the margins
+abbrev pub Inside : ℕ → ℕ → NextTab → Type 0
+Inside top bottom (Tabbed n) = (top ≤ n .0) × (n .0 ≤ bottom)
+Inside top bottom Untabbed = Unit {0}
+
+pub first-tab-inside : (top bottom : ℕ) (n : Line) (tabs : List Bool) → top ≤ n .0 → ((i : ℕ) → T (getD tabs i false) → n .0 + i ≤ bottom)
+    → Inside top bottom (first-tab n tabs)
 unfolding first-tab
-first-tab-inside lines n [] l h = tt
-first-tab-inside lines n (true ∷ ts) l h = (l, omega (arith, h 0 tt))
-first-tab-inside lines n (false ∷ ts) l h = first-tab-inside lines (next-line n) ts (omega arith) (λ i t. omega (arith, h (suc i) t))
+first-tab-inside top bottom n [] l h = tt
+first-tab-inside top bottom n (true ∷ ts) l h = (l, omega (arith, h 0 tt))
+first-tab-inside top bottom n (false ∷ ts) l h = first-tab-inside top bottom (next-line n) ts (omega arith) (λ i t. omega (arith, h (suc i) t))

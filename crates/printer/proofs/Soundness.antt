@@ -1,38 +1,59 @@
 -- What the sound test says, as facts.
-use Prim.Native.Nat.{ℕ, zero, suc, _+_, _-_, _<_}
+use Prim.Native.Nat.{ℕ, _+_, _-_, _<_, _≤_, suc, zero}
 use mathlib.Core.Bool.{Bool, true, false, not, _||_, and-eq-true-iff, true≢false}
 use mathlib.Core.List.{List, [], _∷_}
 use mathlib.Core.Path.{_≡_, refl, sym, ap, subst, _∙_}
 use native.Mathlib.Omega.{arith}
 use borrow.Author.Tests.{eq-eqb, eqb-true, le-leb, leb-true, lt-ltb, ltb-false, ltb-true, not-true}
-use lib.Dec.{T, ltb}
+use lib.Dec.{T, leb, ltb}
 use lib.ListN.{drop, getD}
 use lib.Seq.{getD-drop}
 use Rattle.sheet.specs.declared.Form.{Form}
 use Rattle.sheet.specs.Edition.{Edition}
-use Rattle.sheet.specs.Form.{fits, lines-allowed}
+use Rattle.sheet.specs.Form.{below-top, fits, lines-allowed, margins-allowed}
 use Rattle.printer.specs.declared.Begun.{Begun}
 use Rattle.printer.specs.declared.Begun.the-variants.{Nowhere, At}
 use Rattle.printer.specs.declared.Head.{Head}
 use Rattle.printer.specs.declared.Pending.{Pending}
 use Rattle.printer.specs.declared.Pending.the-variants.{Nothing, Escape, Tabs, Reset, Select, SelectLow, CountHigh, CountLow, AddressHigh}
-use Rattle.printer.specs.declared.Pending.the-variants.{AddressLow, Payload}
+use Rattle.printer.specs.declared.Pending.the-variants.{AddressLow, Payload, Bracket}
 use Rattle.printer.specs.declared.Printer.{Printer}
 use Rattle.printer.specs.Facts.{Sound, SoundForm, SoundLoad, SoundPlace, SoundPlot, SoundTabs}
 use Rattle.printer.specs.Sound.{begun, form-sound, fresh-sound, load-sound, place-sound, plot-sound, sound, tabs-sound, untabbed}
 use Rattle.printer.specs.Tabs.{line-tabs}
 
 -- Each test says its fact.
-form-facts : (e : Edition) (f : Form) → form-sound e f ≡ true → SoundForm e f
-unfolding form-sound lines-allowed
+pub form-facts : (e : Edition) (f : Form) → form-sound e f ≡ true → SoundForm e f
+unfolding form-sound lines-allowed margins-allowed
 form-facts e f q =
-    let a = and-eq-true-iff _ _ .0 q in
-    let b = and-eq-true-iff _ _ .0 (a .0) in
-    record { some = leb-true _ _ (b .0); most = leb-true _ _ (b .1); spacing = a .1 }
+    let a₃ = and-eq-true-iff _ _ .0 q in
+    let a₂ = and-eq-true-iff _ _ .0 (a₃ .0) in
+    let a₁ = and-eq-true-iff _ _ .0 (a₂ .0) in
+    let lines = and-eq-true-iff (leb 1 (f .lines)) _ .0 (a₁ .0) in
+    let margins = and-eq-true-iff _ _ .0 (a₂ .1) in
+    let upper = and-eq-true-iff _ _ .0 (margins .0) in
+    record {
+      most = leb-true _ _ (lines .1);
+      spacing = a₁ .1;
+      top = leb-true _ _ (upper .0);
+      between = leb-true _ _ (upper .1);
+      bottom = leb-true _ _ (margins .1);
+      own = a₃ .1;
+    }
 
 form-tested : (e : Edition) (f : Form) → SoundForm e f → form-sound e f ≡ true
-unfolding form-sound lines-allowed
-form-tested e f h = rw (le-leb 1 (f .lines) (h .some), le-leb (f .lines) (e .longest) (h .most), h .spacing)
+unfolding form-sound lines-allowed margins-allowed
+form-tested e f h =
+    let some : 1 ≤ f .lines = omega (arith, h .top, h .between, h .bottom) in
+    rw (
+      le-leb 1 (f .lines) some,
+      le-leb (f .lines) (e .longest) (h .most),
+      h .spacing,
+      le-leb 1 (f .top .0) (h .top),
+      le-leb (f .top .0) (f .bottom .0) (h .between),
+      le-leb (f .bottom .0) (f .lines) (h .bottom),
+    )
+    (h .own)
 
 untabbed-facts : (ts : List Bool) → untabbed ts ≡ true → (i : ℕ) → getD ts i false ≡ false
 unfolding untabbed
@@ -96,31 +117,33 @@ module _ (h : Head) where
   unfolding plot-sound
   plot-tested q k = flag-if (h .plotting) _ (λ t. and-eq-true-iff _ _ .1 (k t))
 
-load-facts : (q : Pending) → load-sound q ≡ true → SoundLoad q
-load-facts Nothing r = tt
-load-facts (Escape place) r = tt
-load-facts (Tabs place) r = tt
-load-facts (Reset place) r = tt
-load-facts (Select place) r = tt
-load-facts (SelectLow place high) r = tt
-load-facts (CountHigh place) r = tt
-load-facts (CountLow place high) r = tt
-load-facts (AddressHigh place count) r = tt
-load-facts (AddressLow place count high) r = tt
-load-facts (Payload place load) r = leb-true _ _ r
+load-facts : (e : Edition) (q : Pending) → load-sound e q ≡ true → SoundLoad e q
+load-facts e Nothing r = tt
+load-facts e (Escape place) r = tt
+load-facts e (Tabs place) r = tt
+load-facts e (Reset place) r = tt
+load-facts e (Select place) r = tt
+load-facts e (SelectLow place high) r = tt
+load-facts e (CountHigh place) r = tt
+load-facts e (CountLow place high) r = tt
+load-facts e (AddressHigh place count) r = tt
+load-facts e (AddressLow place count high) r = tt
+load-facts e (Payload place load) r = leb-true _ _ r
+load-facts e (Bracket place settings) r = r
 
-load-tested : (q : Pending) → SoundLoad q → load-sound q ≡ true
-load-tested Nothing k = refl
-load-tested (Escape place) k = refl
-load-tested (Tabs place) k = refl
-load-tested (Reset place) k = refl
-load-tested (Select place) k = refl
-load-tested (SelectLow place high) k = refl
-load-tested (CountHigh place) k = refl
-load-tested (CountLow place high) k = refl
-load-tested (AddressHigh place count) k = refl
-load-tested (AddressLow place count high) k = refl
-load-tested (Payload place load) k = le-leb _ _ k
+load-tested : (e : Edition) (q : Pending) → SoundLoad e q → load-sound e q ≡ true
+load-tested e Nothing k = refl
+load-tested e (Escape place) k = refl
+load-tested e (Tabs place) k = refl
+load-tested e (Reset place) k = refl
+load-tested e (Select place) k = refl
+load-tested e (SelectLow place high) k = refl
+load-tested e (CountHigh place) k = refl
+load-tested e (CountLow place high) k = refl
+load-tested e (AddressHigh place count) k = refl
+load-tested e (AddressLow place count high) k = refl
+load-tested e (Payload place load) k = le-leb _ _ k
+load-tested e (Bracket place settings) k = k
 
 place-facts : (job : ℕ) (b : Begun) → place-sound job b ≡ true → SoundPlace job b
 place-facts job Nowhere r = tt
@@ -133,9 +156,10 @@ place-tested job (At place) k = lt-ltb _ _ k
 -- a state is sound exactly where its facts hold
 module _ (e : Edition) (p : Printer) where
   pub sound-facts : sound e p ≡ true → Sound e p
-  unfolding sound fits
+  unfolding sound fits below-top
   sound-facts q =
-      let a₇ = and-eq-true-iff _ _ .0 q in
+      let a₈ = and-eq-true-iff _ _ .0 q in
+      let a₇ = and-eq-true-iff _ _ .0 (a₈ .0) in
       let a₆ = and-eq-true-iff _ _ .0 (a₇ .0) in
       let a₅ = and-eq-true-iff _ _ .0 (a₆ .0) in
       let a₄ = and-eq-true-iff _ _ .0 (a₅ .0) in
@@ -144,22 +168,23 @@ module _ (e : Edition) (p : Printer) where
       let a₁ = and-eq-true-iff _ _ .0 (a₂ .0) in
       record {
         form = form-facts e (p .form) (a₁ .0);
-        head = record { row = leb-true _ _ (a₁ .1); column = leb-true _ _ (a₂ .1); fresh = fresh-facts (p .head) (a₆ .1) };
-        tabs = tabs-facts (p .form) (line-tabs (p .tabs)) (a₃ .1);
-        load = load-facts (p .pending) (a₄ .1);
-        place = place-facts (p .job) (begun (p .pending)) (a₅ .1);
-        plot = plot-facts (p .head) (p .pending) (a₇ .1);
+        head = record { above = leb-true _ _ (a₁ .1); row = leb-true _ _ (a₂ .1); column = leb-true _ _ (a₃ .1); fresh = fresh-facts (p .head) (a₇ .1) };
+        tabs = tabs-facts (p .form) (line-tabs (p .tabs)) (a₄ .1);
+        load = load-facts e (p .pending) (a₅ .1);
+        place = place-facts (p .job) (begun (p .pending)) (a₆ .1);
+        plot = plot-facts (p .head) (p .pending) (a₈ .1);
       }
 
   pub facts-sound : Sound e p → sound e p ≡ true
-  unfolding sound fits
+  unfolding sound fits below-top
   facts-sound h =
       rw (
         form-tested e (p .form) (h .form),
+        le-leb _ _ (h .head .above),
         le-leb _ _ (h .head .row),
         le-leb _ _ (h .head .column),
         tabs-tested (p .form) (line-tabs (p .tabs)) (h .tabs),
-        load-tested (p .pending) (h .load),
+        load-tested e (p .pending) (h .load),
         place-tested (p .job) (begun (p .pending)) (h .place),
         fresh-tested (p .head) (h .head .fresh),
       )

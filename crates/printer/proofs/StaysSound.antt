@@ -1,53 +1,59 @@
 -- Every byte keeps a machine ready, its state sound and its memory of its lengths.
 use Prim.Native.Nat.{ℕ, zero-le, _+_, _-_, _*_, _%_, _≤_, _<_}
-use mathlib.Core.Bool.{Bool, true, false, not, _||_, and-eq-true-iff, true≢false}
+use mathlib.Core.Bool.{Bool, true, false, not, _&&_, _||_, and-eq-true-iff, true≢false}
 use mathlib.Core.List.{List, [], _∷_}
 use mathlib.Core.Path.{_≡_, refl, sym, subst, _∙_}
 use native.Mathlib.Omega.{arith}
-use borrow.Author.Tests.{le-leb, leb-true, ltb-false, ltb-true}
+use borrow.Author.Tests.{eq-eqb, le-leb, leb-true, ltb-false, ltb-true}
 use lib.Dec.{T, eqb, ltb}
-use lib.ListN.{drop, length, length-append, length-drop, length-set, length-take, set}
+use lib.ListN.{drop, length, length-append, length-drop, length-set, length-take, set, take}
 use lib.Seq.{getD-drop}
 use Rattle.sheet.specs.declared.Form.{Form}
 use Rattle.sheet.specs.declared.Line.{Line}
+use Rattle.sheet.specs.declared.Model.{Model}
 use Rattle.sheet.specs.declared.Pitch.{Pitch}
+use Rattle.sheet.specs.declared.Pitch.the-variants.{Normal, Compressed}
 use Rattle.sheet.specs.declared.Row.{Row}
 use Rattle.sheet.specs.Dots.{struck}
-use Rattle.sheet.specs.declared.Model.{Model}
 use Rattle.sheet.specs.Edition.{Edition, described}
-use Rattle.sheet.specs.Form.{first-line, fits, has-line, form-rows, line, lines-above, lines-through, next-line, line-of, lines-allowed, page-bytes}
-use Rattle.sheet.specs.Form.{spacing-allowed, top}
+use Rattle.sheet.specs.Form.{below-top, blank-page, first-row, fits, has-line, line, line-of, lines-above, lines-allowed, lines-through, new-form}
+use Rattle.sheet.specs.Form.{next-line, page-bytes, spacing-allowed, top-row, unmargined}
+use Rattle.sheet.proofs.Editions.{Proper}
 use Rattle.sheet.proofs.Struck.{length-struck}
-use Rattle.sheet.proofs.Units.{length-blank-page, length-empty-line, line-fits, line-inside, top-fits}
+use Rattle.sheet.proofs.Units.{length-blank-page, length-empty-line, line-below-top, line-fits, line-from-top, line-inside, lower-below-top}
 use Rattle.glyph.specs.Entering.{or-in}
 use Rattle.glyph.proofs.Lengths.{length-enter, length-or-in}
 use Rattle.printer.specs.declared.Begun.{Begun}
 use Rattle.printer.specs.declared.Begun.the-variants.{Nowhere, At}
-use Rattle.printer.specs.declared.Event.{Event}
-use Rattle.printer.specs.declared.Event.the-variants.{Quiet, Finished, Noted}
 use Rattle.printer.specs.declared.Load.{Load}
 use Rattle.printer.specs.declared.Pending.{Pending}
 use Rattle.printer.specs.declared.Pending.the-variants.{Nothing, Escape, Tabs, Reset, Select, SelectLow, CountHigh, CountLow, AddressHigh}
-use Rattle.printer.specs.declared.Pending.the-variants.{AddressLow, Payload}
+use Rattle.printer.specs.declared.Pending.the-variants.{AddressLow, Payload, Bracket}
 use Rattle.printer.specs.declared.Printer.{Printer}
+use Rattle.printer.specs.declared.Setting.{Setting}
+use Rattle.printer.specs.declared.Setting.the-variants.{Omitted, Given}
+use Rattle.printer.specs.declared.Settings.{Settings}
 use Rattle.printer.specs.declared.NextTab.{NextTab}
 use Rattle.printer.specs.declared.NextTab.the-variants.{Tabbed, Untabbed}
 use Rattle.printer.specs.Alone.{alone, text-byte}
-use Rattle.printer.specs.Bytes.{act, ended, loaded, first-byte, payload-byte, run, second-byte, step, tab-byte, text-escape}
+use Rattle.printer.specs.Brackets.{at-top, bracket, continues, no-settings, only, reform}
+use Rattle.printer.specs.Brackets.{reformed, resize, resized, respace, respaced, setting-byte, style}
+use Rattle.printer.specs.Bytes.{act, bracket-byte, ended, loaded, first-byte, payload-byte, run, second-byte, step, tab-byte, text-escape}
 use Rattle.printer.specs.Downloads.{download, out-of-range, replaced}
-use Rattle.printer.specs.Escapes.{after-reset, clear-tabs, set-elongated, escape, set-downloaded, in-turn, set-pitch, begin-plot, reset, select}
-use Rattle.printer.specs.Escapes.{tab, tab-here, tab-item, set-underscore}
+use Rattle.printer.specs.Escapes.{after-reset, begin-plot, clear-tabs, escape, in-turn, repitched, reset, select, set-downloaded, set-elongated}
+use Rattle.printer.specs.Escapes.{set-pitch, set-underscore, tab, tab-here, tab-item}
+use Rattle.printer.specs.Facts.{Sound, SoundForm, SoundHead, SoundLoad, SoundPlace, SoundPlot, SoundTabs}
 use Rattle.printer.specs.Machine.{Machine, fresh-head, opened, store-size, with-job, with-pending, with-staging}
 use Rattle.printer.specs.Plotting.{plot, plot-byte, plot-escape, leave-plot}
 use Rattle.printer.specs.Printing.{entered, moved-to, print}
-use Rattle.printer.specs.Sound.{begun, at-most-escape}
-use Rattle.printer.specs.Steps.{tell, tell-step}
-use Rattle.printer.specs.Tabs.{line-tabs}
+use Rattle.printer.specs.Sound.{begun, at-most-escape, form-sound}
+use Rattle.printer.specs.Steps.{finished}
+use Rattle.printer.specs.Tabs.{line-tabs, tabs-through}
 use Rattle.printer.specs.Terminators.{carriage-return, current-line, form-feed, newline, strike, tab-to, vertical-tab}
 use Rattle.printer.specs.Room.{Ready}
-use Rattle.printer.proofs.Ready.{length-empty-store, ready-cond, ready-test}
-use Rattle.printer.proofs.SoundTabs.{Inside, first-tab-inside, tab-put, tabs-cleared}
-use Rattle.printer.specs.Facts.{Sound, SoundHead, SoundLoad, SoundPlace, SoundPlot}
+use Rattle.printer.proofs.Ready.{Fine, fine, fine-cond, fine-finished, fine-noted, fine-quiet, fine-reformed, fine-test, length-empty-store}
+use Rattle.printer.proofs.SoundTabs.{Inside, first-tab-inside, tab-put, tabs-cleared, tabs-kept, taken-inside}
+use Rattle.printer.proofs.Soundness.{form-facts}
 
 lt-add-one : (a b : ℕ) → a < b → a + 1 ≤ b
 lt-add-one a b h = omega arith
@@ -65,6 +71,29 @@ in-range count address q =
     let high = or-parts _ _ (low .1) in
     (ltb-false _ _ (low .0), ltb-false _ _ (high .0))
 
+-- a form just opened has its own ends for margins
+unmargined-new : (e : Edition) (lines spacing : ℕ) → (e .brackets || unmargined (new-form lines spacing)) ≡ true
+unfolding unmargined
+unmargined-new e lines spacing = go (e .brackets)
+  where
+    go : (b : Bool) → (b || (eqb 1 1 && eqb lines lines)) ≡ true
+    go true = refl
+    go false = eq-eqb lines lines refl
+
+-- a form can be struck at its first row
+form-top-fits : {e : Edition} {f : Form} → SoundForm e f → fits f (top-row f) ≡ true
+unfolding top-row
+form-top-fits {f = f} k = line-fits f (f .top) (k .top) (k .between)
+
+form-top-below : (f : Form) → below-top f (top-row f) ≡ true
+unfolding top-row
+form-top-below f = line-below-top f (f .top) (omega arith)
+
+-- a fresh line within the margins
+fresh-head-sound : (f : Form) (r : Row) (width : ℕ) → fits f r ≡ true → below-top f r ≡ true → SoundHead f width (fresh-head r)
+unfolding fits below-top
+fresh-head-sound f r width q k = record { above = leb-true _ _ k; row = leb-true _ _ q; column = omega arith; fresh = λ _. (refl, refl) }
+
 -- The rules.
 module _ {e : Edition} {m : Machine} (h : Ready e m) where
   abbrev form : Form
@@ -80,64 +109,78 @@ module _ {e : Edition} {m : Machine} (h : Ready e m) where
   unfolding fits
   here-fits = le-leb _ _ (h .printer .head .row)
 
-  form-top : fits form top ≡ true
-  form-top = top-fits form (h .printer .form .some)
+  here-below : below-top form here ≡ true
+  unfolding below-top
+  here-below = le-leb _ _ (h .printer .head .above)
 
-  fresh-head-sound : (r : Row) (width : ℕ) → fits form r ≡ true → SoundHead form width (fresh-head r)
-  unfolding fits
-  fresh-head-sound r width q = record { row = leb-true _ _ q; column = omega arith; fresh = λ _. (refl, refl) }
+  top-fits : fits form (top-row form) ≡ true
+  top-fits = form-top-fits (h .printer .form)
 
-  strike-ready : (r : Row) → fits form r ≡ true → Ready e (strike e r m)
+  top-below : below-top form (top-row form) ≡ true
+  top-below = form-top-below form
+
+  strike-ready : (r : Row) → fits form r ≡ true → below-top form r ≡ true → Ready e (strike e r m)
   unfolding strike
-  strike-ready r q =
+  strike-ready r q k =
       let p : length (struck e (m .page) (m .line) here (m .printer .style .pitch)) ≡ page-bytes e form = length-struck e _ _ _ _ ∙ h .memory .page in
       search (fresh-head-sound, length-empty-line, absurd)
 
-  newline-ready : Ready e (newline e m .machine)
+  newline-fine : Fine e (newline e m)
   unfolding newline
-  newline-ready = search (ready-test, strike-ready, form-top)
+  newline-fine = search (fine-test, fine-quiet, fine-finished, strike-ready, top-fits, top-below, lower-below-top, here-below) depth 10
 
-  form-feed-ready : Ready e (form-feed e m .machine)
+  form-feed-fine : Fine e (form-feed e m)
   unfolding form-feed
-  form-feed-ready = strike-ready top form-top
+  form-feed-fine = search (fine, strike-ready, top-fits, top-below)
 
-  carriage-return-ready : Ready e (carriage-return e m .machine)
+  carriage-return-fine : Fine e (carriage-return e m)
   unfolding carriage-return
-  carriage-return-ready = strike-ready here here-fits
+  carriage-return-fine = search (fine, strike-ready, here-fits, here-below)
 
-  tab-to-ready : (below lowest : NextTab) → Inside (form .lines) below → Inside (form .lines) lowest → Ready e (tab-to e below lowest m .machine)
+  abbrev Stop : NextTab → Type 0
+  Stop t = Inside (form .top .0) (form .bottom .0) t
+
+  line-ready : (n : Line) → Stop (Tabbed n) → Ready e (strike e (first-row form n) m)
+  line-ready n b = strike-ready _ (line-fits form n (omega (arith, h .printer .form .top, b .0)) (b .1)) (line-below-top form n (b .0))
+
+  tab-to-fine : (below lowest : NextTab) → Stop below → Stop lowest → Fine e (tab-to e below lowest m)
   unfolding tab-to
-  tab-to-ready (Tabbed n) lowest b l = strike-ready _ (line-fits form n (b .0) (b .1))
-  tab-to-ready Untabbed (Tabbed n) b l = strike-ready _ (line-fits form n (l .0) (l .1))
-  tab-to-ready Untabbed Untabbed b l = carriage-return-ready
+  tab-to-fine (Tabbed n) lowest b l = fine-quiet (line-ready n b)
+  tab-to-fine Untabbed (Tabbed n) b l = fine-finished (line-ready n l)
+  tab-to-fine Untabbed Untabbed b l = carriage-return-fine
 
-  vertical-tab-ready : Ready e (vertical-tab e m .machine)
+  vertical-tab-fine : Fine e (vertical-tab e m)
   unfolding vertical-tab
-  vertical-tab-ready =
+  vertical-tab-fine =
       let n : Line = current-line m in
-      tab-to-ready _ _
-      (first-tab-inside (form .lines) (next-line n) (drop (lines-through n) (line-tabs (m .printer .tabs))) (omega arith)
-      (λ i t. omega (arith, h .printer .tabs .inside (lines-through n + i) (rw getD-drop at t))))
-      (first-tab-inside (form .lines) first-line (line-tabs (m .printer .tabs)) (omega arith) (λ i t. omega (arith, h .printer .tabs .inside i t)))
+      let n₂ : Line = form .top in
+      let n₃ : Line = form .bottom in
+      let tabs : List Bool = line-tabs (m .printer .tabs) in
+      let from : n₂ .0 ≤ n .0 = line-from-top form here here-below in
+      tab-to-fine _ _
+      (first-tab-inside (n₂ .0) (n₃ .0) (next-line n) (drop (lines-through n) (take (n₃ .0) tabs)) (omega arith)
+      (λ i t. omega (arith, taken-inside (n₃ .0) tabs (lines-through n + i) (rw getD-drop at t))))
+      (first-tab-inside (n₂ .0) (n₃ .0) n₂ (drop (lines-above n₂) (take (n₃ .0) tabs)) (omega arith)
+      (λ i t. omega (arith, h .printer .form .top, taken-inside (n₃ .0) tabs (lines-above n₂ + i) (rw getD-drop at t))))
 
   moved-sound : (c : ℕ) → c ≤ width → SoundHead form width (moved-to c (m .printer .head))
-  moved-sound c l = record { row = h .printer .head .row; column = l; fresh = λ t. absurd t }
+  moved-sound c l = record { above = h .printer .head .above; row = h .printer .head .row; column = l; fresh = λ t. absurd t }
 
-  print-ready : (font : List ℕ) (b place : ℕ) → Ready e (print e font b place m .machine)
+  print-fine : (font : List ℕ) (b place : ℕ) → Fine e (print e font b place m)
   unfolding print entered
-  print-ready font b place =
+  print-fine font b place =
       let l : length (entered e font b m) ≡ e .columns = length-enter _ _ _ _ _ _ _ ∙ h .memory .line in
-      search (ready-test, moved-sound, leb-true) depth 10
+      search (fine-test, fine-quiet, fine-noted, moved-sound, leb-true) depth 10
 
-  plot-ready : (v place : ℕ) → Ready e (plot e v place m .machine)
+  plot-fine : (v place : ℕ) → Fine e (plot e v place m)
   unfolding plot
-  plot-ready v place =
+  plot-fine v place =
       let l : length (or-in (m .printer .head .column) v (m .line)) ≡ e .columns = length-or-in _ _ _ ∙ h .memory .line in
-      search (ready-test, moved-sound, leb-true) depth 10
+      search (fine-test, fine-quiet, fine-noted, moved-sound, leb-true) depth 10
 
-  in-turn-ready : (place : ℕ) (after : Machine) → (T (m .printer .head .fresh) → Ready e after) → Ready e (in-turn place m after .machine)
+  in-turn-fine : (place : ℕ) (after : Machine) → (T (m .printer .head .fresh) → Ready e after) → Fine e (in-turn place m after)
   unfolding in-turn
-  in-turn-ready place after k = ready-test (m .printer .head .fresh) _ _ (λ q. k (subst T (sym q) tt)) (λ _. h)
+  in-turn-fine place after k = fine-test (m .printer .head .fresh) _ _ (λ q. fine-quiet (k (subst T (sym q) tt))) (λ _. fine-noted h)
 
   set-elongated-ready : (on : Bool) → Ready e (set-elongated on m)
   set-elongated-ready on = search
@@ -148,10 +191,20 @@ module _ {e : Edition} {m : Machine} (h : Ready e m) where
   set-downloaded-ready : (on : Bool) → Ready e (set-downloaded on m)
   set-downloaded-ready on = search
 
-  set-pitch-ready : (p : Pitch) → T (m .printer .head .fresh) → Ready e (set-pitch p m)
-  set-pitch-ready p t =
-      let k : m .printer .head .column ≤ e .width p = omega (arith, h .printer .head .fresh t .0) in
-      search (h .printer .head .fresh, h .printer .plot)
+  -- on a fresh line the pitch may change, and, in an edition that lets it, anywhere
+  set-pitch-ready : (p : Pitch) → m .printer .head .column ≤ e .width p → Ready e (set-pitch p m)
+  set-pitch-ready p k = search (h .printer .head .fresh, h .printer .plot)
+
+  restyle-ready : (p : Pitch) (on : Bool) → m .printer .head .column ≤ e .width p → Ready e (set-elongated on (set-pitch p m))
+  restyle-ready p on k = search (h .printer .head .fresh, h .printer .plot)
+
+  repitched-fine : Proper e → (p : Pitch) (place : ℕ) (after : Machine) → (m .printer .head .column ≤ e .width p → Ready e after)
+      → Fine e (repitched e place m after)
+  unfolding repitched
+  repitched-fine proper p place after k =
+      fine-test (e .mixed) _ _
+      (λ q. fine-quiet (k (omega (arith, h .printer .head .column, proper .level (subst T (sym q) tt) (m .printer .style .pitch) p))))
+      (λ _. in-turn-fine place after (λ t. k (omega (arith, h .printer .head .fresh t .0))))
 
   begin-plot-ready : at-most-escape (m .printer .pending) ≡ true → Ready e (begin-plot m)
   begin-plot-ready q = search absurd
@@ -165,14 +218,14 @@ module _ {e : Edition} {m : Machine} (h : Ready e m) where
 
   tab-here-ready : (on : Bool) → Ready e (tab-here on m)
   unfolding tab-here line-of
-  tab-here-ready on = tab-ready on (current-line m) (omega arith) (line-inside form here here-fits)
+  tab-here-ready on = tab-ready on (current-line m) (omega arith) (omega (arith, line-inside form here here-fits, h .printer .form .bottom))
 
-  tab-item-ready : (n place : ℕ) → Ready e (tab-item n place m .machine)
+  tab-item-fine : (n place : ℕ) → Fine e (tab-item n place m)
   unfolding tab-item has-line
-  tab-item-ready n place =
-      ready-test (has-line form n) _ _
-      (λ q. let p = and-eq-true-iff _ _ .0 q in tab-ready true (line n) (leb-true _ _ (p .0)) (leb-true _ _ (p .1)))
-      (λ _. h)
+  tab-item-fine n place =
+      fine-test (has-line form n) _ _
+      (λ q. let p = and-eq-true-iff _ _ .0 q in fine-quiet (tab-ready true (line n) (leb-true _ _ (p .0)) (leb-true _ _ (p .1))))
+      (λ _. fine-noted h)
 
   clear-tabs-ready : Ready e (clear-tabs m)
   unfolding clear-tabs
@@ -180,56 +233,105 @@ module _ {e : Edition} {m : Machine} (h : Ready e m) where
 
   after-reset-ready : Ready e (after-reset e m)
   unfolding after-reset clear-tabs
-  after-reset-ready = search (tabs-cleared, fresh-head-sound, here-fits, length-empty-line, length-empty-store, absurd)
+  after-reset-ready = search (tabs-cleared, fresh-head-sound, here-fits, here-below, length-empty-line, length-empty-store, absurd)
 
-  reset-ready : (b place : ℕ) → Ready e (reset e b place m .machine)
+  reset-fine : (b place : ℕ) → Fine e (reset e b place m)
   unfolding reset
-  reset-ready b place = search (ready-cond, after-reset-ready)
+  reset-fine b place = search (fine, after-reset-ready)
 
-  select-ready : (high low place : ℕ) → Ready e (select high low place m .machine)
+  select-fine : (high low place : ℕ) → Fine e (select high low place m)
   unfolding select
-  select-ready high low place = search (ready-cond, set-downloaded-ready)
+  select-fine high low place = search (fine, set-downloaded-ready)
 
-  escape-ready : (b place : ℕ) → at-most-escape (m .printer .pending) ≡ true → Ready e (escape b place m .machine)
+  escape-fine : Proper e → (b place : ℕ) → at-most-escape (m .printer .pending) ≡ true → Fine e (escape e b place m)
   unfolding escape
-  escape-ready b place q =
-      search (
-        ready-cond,
-        tab-here-ready,
-        set-elongated-ready,
-        set-underscore-ready,
-        set-downloaded-ready,
-        in-turn-ready,
-        set-pitch-ready,
-        begin-plot-ready,
-      )
-      depth 20
+  escape-fine proper b place q =
+      let compressed : Fine e (repitched e place m (set-pitch Compressed m)) = repitched-fine proper Compressed place _ (set-pitch-ready Compressed) in
+      let normal : Fine e (repitched e place m (set-pitch Normal m)) = repitched-fine proper Normal place _ (set-pitch-ready Normal) in
+      search (fine, tab-here-ready, set-elongated-ready, set-underscore-ready, set-downloaded-ready, in-turn-fine, begin-plot-ready) depth 20
 
-  plot-escape-ready : (b place : ℕ) → Ready e (plot-escape e b place m .machine)
+  -- another form, which is sound
+  reformed-fine : (f : Form) → SoundForm e f → Fine e (finished (reformed f m))
+  unfolding reformed
+  reformed-fine f k =
+      let head : SoundHead f (e .width (m .printer .style .pitch)) (fresh-head (top-row f)) = fresh-head-sound f _ _ (form-top-fits k) (form-top-below f) in
+      let tabs : SoundTabs (f .lines) (line-tabs (tabs-through (f .lines) (m .printer .tabs))) = tabs-kept (f .lines) (m .printer .tabs) in
+      let page : length (blank-page e f) ≡ page-bytes e f = length-blank-page e f in
+      fine-reformed (search absurd)
+
+  reform-fine : (allowed : Bool) (f : Form) (place : ℕ) → (allowed ≡ true → SoundForm e f) → Fine e (reform allowed f place m)
+  unfolding reform
+  reform-fine allowed f place k = fine-test (allowed && at-top m) _ _ (λ q. reformed-fine f (k (and-eq-true-iff _ _ .0 q .0))) (λ _. fine-noted h)
+
+  style-fine : Proper e → (s : Setting) (place : ℕ) → Fine e (style e s place m)
+  unfolding style
+  style-fine proper Omitted place = fine-noted h
+  style-fine proper (Given v) place =
+      let any : (p : Pitch) (on : Bool) → Fine e (repitched e place m (set-elongated on (set-pitch p m))) =
+      λ p on. repitched-fine proper p place _ (restyle-ready p on) in
+      fine-cond (eqb v 0) _ _ (any Normal true)
+      (fine-cond (eqb v 2) _ _ (any Compressed true)
+      (fine-cond (eqb v 4) _ _ (any Normal false)
+      (fine-cond (eqb v 6) _ _ (any Compressed false) (fine-noted h))))
+
+  -- Only an edition with such commands lets the form change.
+  module _ (can : e .brackets ≡ true) where
+    own : (f : Form) → (e .brackets || unmargined f) ≡ true
+    own f = rw can
+
+    resize-fine : (s : Settings) (place : ℕ) → Fine e (resize e s place m)
+    unfolding resize form-sound
+    resize-fine s place =
+        let f : Form = resized s form in
+        reform-fine _ f place
+        (λ q.
+        let a = and-eq-true-iff _ _ .0 q in
+        let b = and-eq-true-iff (ltb (s .semicolons) 3) _ .0 (a .0) in
+        form-facts e f (rw (b .1, h .printer .form .spacing, a .1) (own f)))
+
+    respaced-sound : (spacing : ℕ) → spacing-allowed spacing ≡ true → SoundForm e (respaced spacing form)
+    respaced-sound spacing q =
+        let k = h .printer .form in
+        record { most = k .most; spacing = q; top = k .top; between = k .between; bottom = k .bottom; own = own _ }
+
+    respace-fine : (s : Setting) (place : ℕ) → Fine e (respace e s place m)
+    unfolding respace spacing-allowed
+    respace-fine Omitted place = fine-noted h
+    respace-fine (Given v) place =
+        fine-cond (eqb v 1) _ _ (reform-fine true _ place (λ _. respaced-sound 6 refl))
+        (fine-cond (eqb v 2) _ _ (reform-fine true _ place (λ _. respaced-sound 8 refl)) (fine-noted h))
+
+    bracket-fine : Proper e → (s : Settings) (last place : ℕ) → Fine e (bracket e s last place m)
+    unfolding bracket
+    bracket-fine proper s last place =
+        fine-cond (eqb last 0x77) _ _ (style-fine proper (only s) place)
+        (fine-cond (eqb last 0x72) _ _ (resize-fine s place)
+        (fine-cond (eqb last 0x7a) _ _ (respace-fine (only s) place) (fine-noted h)))
+
+  plot-escape-fine : (b place : ℕ) → Fine e (plot-escape e b place m)
   unfolding plot-escape
-  plot-escape-ready b place = search (ready-cond, plot-ready, leave-plot-ready)
+  plot-escape-fine b place = search (fine, plot-fine, leave-plot-ready)
 
-  alone-ready : (font : List ℕ) (b place : ℕ) → Ready e (alone e font b place m .machine)
+  alone-fine : (font : List ℕ) (b place : ℕ) → Fine e (alone e font b place m)
   unfolding alone text-byte plot-byte
-  alone-ready font b place = search (ready-cond, plot-ready, print-ready, newline-ready, vertical-tab-ready, form-feed-ready, carriage-return-ready) depth 20
+  alone-fine font b place = search (fine, plot-fine, print-fine, newline-fine, vertical-tab-fine, form-feed-fine, carriage-return-fine) depth 20
 
-  download-ready : (count address sum checksum place : ℕ) → Ready e (download count address sum checksum place m .machine)
+  download-fine : (count address sum checksum place : ℕ) → Fine e (download count address sum checksum place m)
   unfolding download replaced
-  download-ready count address sum checksum place =
-      ready-cond (not (eqb ((sum + checksum) % 256) 0)) _ _ h
-      (ready-test (out-of-range count address) _ _ (λ _. h)
+  download-fine count address sum checksum place =
+      fine-cond (not (eqb ((sum + checksum) % 256) 0)) _ _ (fine-noted h)
+      (fine-test (out-of-range count address) _ _ (λ _. fine-noted h)
       (λ q.
       let inside = in-range count address q in
       let k : length (replaced (address - 2048) count (m .staging) (m .store)) ≡ store-size =
       simp (length-append, length-take, length-drop) (omega (arith, h .memory .staging, h .memory .store)) in
-      search ready-cond))
+      search fine))
 
   -- What is pending may change: a command ends, or a longer one goes on outside plot mode.
   ended-ready : Ready e (ended m)
   ended-ready = let q : SoundPlot (m .printer .head) Nothing = λ t. (h .printer .plot t .0, refl) in search
 
-  waiting-ready : (q : Pending) → SoundLoad q → SoundPlace (m .printer .job) (begun q) → (T (m .printer .head .plotting) → ⊥)
-      → Ready e (with-pending q m)
+  waiting-ready : (q : Pending) → SoundLoad e q → SoundPlace (m .printer .job) (begun q) → (T (m .printer .head .plotting) → ⊥) → Ready e (with-pending q m)
   waiting-ready q load place off =
       let plot : SoundPlot (m .printer .head) q = λ t. absurd (off t) in
       search
@@ -245,51 +347,61 @@ module _ {e : Edition} {m : Machine} (h : Ready e m) where
 
 -- One byte, by what is pending, with the byte counted.
 module _ {e : Edition} {m : Machine} (h : Ready e m) where
-  text-escape-ready : (b place : ℕ) → place < m .printer .job → m .printer .head .plotting ≡ false → Ready e (text-escape b place m .machine)
+  text-escape-fine : Proper e → (b place : ℕ) → place < m .printer .job → m .printer .head .plotting ≡ false → Fine e (text-escape e b place m)
   unfolding text-escape clear-tabs
-  text-escape-ready b place l q =
+  text-escape-fine proper b place l q =
       let off : T (m .printer .head .plotting) → ⊥ = λ t. subst T q t in
-      ready-cond (eqb b 0x46) _ _ (waiting-ready (clear-tabs-ready h) (Tabs place) tt l off)
-      (ready-cond (eqb b 0x63) _ _ (waiting-ready h (Reset place) tt l off)
-      (ready-cond (eqb b 0x59) _ _ (waiting-ready h (CountHigh place) tt l off)
-      (ready-cond (eqb b 0x4e) _ _ (waiting-ready h (Select place) tt l off)
-      (escape-ready (ended-ready h) b place refl))))
+      fine-cond (eqb b 0x46) _ _ (fine-quiet (waiting-ready (clear-tabs-ready h) (Tabs place) tt l off))
+      (fine-cond (eqb b 0x63) _ _ (fine-quiet (waiting-ready h (Reset place) tt l off))
+      (fine-cond (eqb b 0x59) _ _ (fine-quiet (waiting-ready h (CountHigh place) tt l off))
+      (fine-cond (eqb b 0x4e) _ _ (fine-quiet (waiting-ready h (Select place) tt l off))
+      (fine-test (eqb b 0x5b && e .brackets) _ _
+      (λ k. fine-quiet (waiting-ready h (Bracket place no-settings) (and-eq-true-iff (eqb b 0x5b) _ .0 k .1) l off))
+      (λ _. escape-fine (ended-ready h) proper b place refl)))))
 
-  second-byte-ready : (b place : ℕ) → place < m .printer .job → Ready e (second-byte e b place m .machine)
+  second-byte-fine : Proper e → (b place : ℕ) → place < m .printer .job → Fine e (second-byte e b place m)
   unfolding second-byte
-  second-byte-ready b place l =
-      ready-test (m .printer .head .plotting) _ _ (λ _. plot-escape-ready (ended-ready h) b place) (λ q. text-escape-ready b place l q)
+  second-byte-fine proper b place l =
+      fine-test (m .printer .head .plotting) _ _ (λ _. plot-escape-fine (ended-ready h) b place) (λ q. text-escape-fine proper b place l q)
 
-  tab-byte-ready : (b here : ℕ) → Ready e (tab-byte b here m .machine)
+  tab-byte-fine : (b here : ℕ) → Fine e (tab-byte b here m)
   unfolding tab-byte
-  tab-byte-ready b here = ready-cond (eqb b 0) _ _ (ended-ready h) (tab-item-ready h b here)
+  tab-byte-fine b here = fine-cond (eqb b 0) _ _ (fine-quiet (ended-ready h)) (tab-item-fine h b here)
 
-  payload-byte-ready : (l : Load) (b place : ℕ) → place < m .printer .job → (T (m .printer .head .plotting) → ⊥)
-      → Ready e (payload-byte l b place m .machine)
+  payload-byte-fine : (l : Load) (b place : ℕ) → place < m .printer .job → (T (m .printer .head .plotting) → ⊥) → Fine e (payload-byte l b place m)
   unfolding payload-byte
-  payload-byte-ready l b place below off =
-      ready-test (ltb (l .taken) (l .count)) _ _
-      (λ q. waiting-ready (staged-ready h (l .taken) b) (Payload place (loaded l b)) (lt-add-one _ _ (ltb-true _ _ q)) below off)
-      (λ _. download-ready (ended-ready h) _ _ _ _ _)
+  payload-byte-fine l b place below off =
+      fine-test (ltb (l .taken) (l .count)) _ _
+      (λ q. fine-quiet (waiting-ready (staged-ready h (l .taken) b) (Payload place (loaded l b)) (lt-add-one _ _ (ltb-true _ _ q)) below off))
+      (λ _. download-fine (ended-ready h) _ _ _ _ _)
+
+  bracket-byte-fine : Proper e → e .brackets ≡ true → (s : Settings) (b place : ℕ) → place < m .printer .job → (T (m .printer .head .plotting) → ⊥)
+      → Fine e (bracket-byte e s b place m)
+  unfolding bracket-byte
+  bracket-byte-fine proper can s b place below off =
+      fine-cond (continues b) _ _ (fine-quiet (waiting-ready h (Bracket place (setting-byte b s)) can below off))
+      (bracket-fine (ended-ready h) can proper s b place)
 
 -- no byte of a longer command comes in plot mode
 text-mode : {e : Edition} {p : Printer} → Sound e p → at-most-escape (p .pending) ≡ false → T (p .head .plotting) → ⊥
 text-mode h q t = true≢false (sym (h .plot t .1) ∙ q)
 
-module _ {e : Edition} (font : List ℕ) (b here : ℕ) (m : Machine) where
-  act-ready : (q : Pending) → here < m .printer .job → Ready e (with-pending q m) → Ready e (act e font q b here (with-pending q m) .machine)
+module _ {e : Edition} (proper : Proper e) (font : List ℕ) (b here : ℕ) (m : Machine) where
+  act-fine : (q : Pending) → here < m .printer .job → Ready e (with-pending q m) → Fine e (act e font q b here (with-pending q m))
   unfolding act first-byte
-  act-ready Nothing l h = ready-cond (eqb b 0x1b) _ _ (escape-begun h here l) (alone-ready h font b here)
-  act-ready (Escape place) l h = second-byte-ready h b place (h .printer .place)
-  act-ready (Tabs place) l h = tab-byte-ready h b here
-  act-ready (Reset place) l h = reset-ready (ended-ready h) b place
-  act-ready (Select place) l h = waiting-ready h (SelectLow place b) tt (h .printer .place) (text-mode (h .printer) refl)
-  act-ready (SelectLow place high) l h = select-ready (ended-ready h) high b place
-  act-ready (CountHigh place) l h = waiting-ready h (CountLow place b) tt (h .printer .place) (text-mode (h .printer) refl)
-  act-ready (CountLow place high) l h = waiting-ready h (AddressHigh place (high * 256 + b)) tt (h .printer .place) (text-mode (h .printer) refl)
-  act-ready (AddressHigh place count) l h = waiting-ready h (AddressLow place count b) tt (h .printer .place) (text-mode (h .printer) refl)
-  act-ready (AddressLow place count high) l h = waiting-ready h (Payload place _) zero-le (h .printer .place) (text-mode (h .printer) refl)
-  act-ready (Payload place load) l h = payload-byte-ready h load b place (h .printer .place) (text-mode (h .printer) refl)
+  act-fine Nothing l h = fine-cond (eqb b 0x1b) _ _ (fine-quiet (escape-begun h here l)) (alone-fine h font b here)
+  act-fine (Escape place) l h = second-byte-fine h proper b place (h .printer .place)
+  act-fine (Tabs place) l h = tab-byte-fine h b here
+  act-fine (Reset place) l h = reset-fine (ended-ready h) b place
+  act-fine (Select place) l h = fine-quiet (waiting-ready h (SelectLow place b) tt (h .printer .place) (text-mode (h .printer) refl))
+  act-fine (SelectLow place high) l h = select-fine (ended-ready h) high b place
+  act-fine (CountHigh place) l h = fine-quiet (waiting-ready h (CountLow place b) tt (h .printer .place) (text-mode (h .printer) refl))
+  act-fine (CountLow place high) l h = fine-quiet (waiting-ready h (AddressHigh place (high * 256 + b)) tt (h .printer .place) (text-mode (h .printer) refl))
+  act-fine (AddressHigh place count) l h = fine-quiet (waiting-ready h (AddressLow place count b) tt (h .printer .place) (text-mode (h .printer) refl))
+  act-fine (AddressLow place count high) l h = fine-quiet (waiting-ready h (Payload place _) zero-le (h .printer .place) (text-mode (h .printer) refl))
+  act-fine (Payload place load) l h = payload-byte-fine h load b place (h .printer .place) (text-mode (h .printer) refl)
+  act-fine (Bracket place settings) l h =
+      bracket-byte-fine h proper (h .printer .load) settings b place (h .printer .place) (text-mode (h .printer) refl)
 
 -- a command that began below the count of the job is below it still with one byte more
 counted-place : (job : ℕ) (b : Begun) → SoundPlace job b → SoundPlace (job + 1) b
@@ -302,33 +414,28 @@ module _ {e : Edition} {m : Machine} where
       let place : SoundPlace (m .printer .job + 1) (begun (m .printer .pending)) = counted-place _ (begun (m .printer .pending)) (h .printer .place) in
       search
 
-  -- THE LAW: a step of a machine that is ready leaves it ready
-  pub step-ready : Ready e m → (font : List ℕ) (b : ℕ) → Ready e (step e font b m .machine)
+  -- THE LAW: after a step of a machine that is ready, the machine that a caller goes on with is ready too
+  pub step-fine : Proper e → Ready e m → (font : List ℕ) (b : ℕ) → Fine e (step e font b m)
   unfolding step
-  step-ready h font b = act-ready font b (m .printer .job) (with-job (m .printer .job + 1) m) (m .printer .pending) (omega arith) (counted h)
-
--- so is the machine that a caller goes on with, with a blank page after a finished one
-pub tell-ready : {e : Edition} (v : Event) {m : Machine} → Ready e m → Ready e (tell e v m .machine)
-unfolding tell
-tell-ready Quiet h = h
-tell-ready Finished h = search length-blank-page
-tell-ready (Noted f place) h = h
+  step-fine proper h font b = act-fine proper font b (m .printer .job) (with-job (m .printer .job + 1) m) (m .printer .pending) (omega arith) (counted h)
 
 -- a machine just opened
-pub opened-ready : (w : Model) (f : Form) → lines-allowed (described w) (f .lines) ≡ true → spacing-allowed (f .spacing) ≡ true
-    → Ready (described w) (opened w f)
-unfolding lines-allowed fits
-opened-ready w f l s =
+pub opened-ready : (w : Model) (lines spacing : ℕ) → lines-allowed (described w) lines ≡ true → spacing-allowed spacing ≡ true
+    → Ready (described w) (opened w (new-form lines spacing))
+unfolding lines-allowed
+opened-ready w lines spacing l s =
     let e : Edition = described w in
+    let f : Form = new-form lines spacing in
     let a = and-eq-true-iff _ _ .0 l in
-    let some : 1 ≤ f .lines = leb-true _ _ (a .0) in
-    let row : 0 + 9 ≤ form-rows f = leb-true _ _ (top-fits f some) in
+    let some : 1 ≤ lines = leb-true _ _ (a .0) in
+    let form : SoundForm e f =
+    record { most = leb-true _ _ (a .1); spacing = s; top = omega arith; between = some; bottom = omega arith; own = unmargined-new e lines spacing } in
     record {
       printer =
           record {
-            form = record { some = some; most = leb-true _ _ (a .1); spacing = s };
-            head = record { row = row; column = omega arith; fresh = λ _. (refl, refl) };
-            tabs = tabs-cleared (f .lines);
+            form = form;
+            head = fresh-head-sound f (top-row f) _ (form-top-fits form) (form-top-below f);
+            tabs = tabs-cleared lines;
             load = tt;
             place = tt;
             plot = λ t. absurd t;
@@ -337,7 +444,7 @@ opened-ready w f l s =
     }
 
 -- and a whole run ends in a machine that is ready
-pub run-ready : {e : Edition} (font bs : List ℕ) {m : Machine} → Ready e m → Ready e (run e font bs m .machine)
-unfolding run tell-step
-run-ready font [] h = h
-run-ready font (b ∷ bs) h = run-ready font bs (tell-ready _ (step-ready h font b))
+pub run-ready : {e : Edition} → Proper e → (font bs : List ℕ) {m : Machine} → Ready e m → Ready e (run e font bs m .machine)
+unfolding run
+run-ready proper font [] h = h
+run-ready proper font (b ∷ bs) h = run-ready proper font bs (step-fine proper h font b .ready)

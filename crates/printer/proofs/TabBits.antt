@@ -3,18 +3,19 @@ use Prim.Native.Nat.{ℕ, zero, suc, _+_, _-_, _*_, _/_, _%_, _^_, _≤_, _<_}
 use mathlib.Core.Bool.{Bool, true, false, not, _&&_}
 use mathlib.Core.List.{List, [], _∷_, _++_}
 use mathlib.Core.Path.{_≡_, refl, sym, ap, ap₂, _∙_}
-use native.Mathlib.Nat.{suc-add, zero-add}
+use native.Mathlib.Decide.{decLt}
+use native.Mathlib.Nat.{div-eq-of-lt, mod-lt, suc-add, zero-add}
 use native.Mathlib.Numerals.{one-add}
 use native.Mathlib.Omega.{arith}
 use borrow.Author.Tests.{eq-eqb, eqb-false, eqb-true, ltb-false, ltb-true, ne-eqb}
 use lib.Bits.{bitOr, or-step, or-zero-r}
 use lib.Dec.{eqb, ltb}
 use lib.ListN.{drop, drop-of-length-le, getD, length, length-append, List·getD-append, List·getD-eq-default, set}
-use lib.Pow.{shr-shr}
+use lib.Pow.{pow-lt, pow-pos, shr-shr}
 use lib.Seq.{drop-append-add, drop-append-le, getD-append-add, set-append-left, set-out}
 use Rattle.printer.specs.declared.TabSet.{TabSet}
 use Rattle.printer.specs.Sound.{untabbed}
-use Rattle.printer.specs.Tabs.{line-tabs, put-bit, with-tab, word-tabs}
+use Rattle.printer.specs.Tabs.{line-tabs, put-bit, tabs-through, with-tab, word-tabs}
 
 -- a word's bits from bit k + 1 on are those of its half from bit k on
 halved : (w k : ℕ) → w / 2 / 2 ^ k ≡ w / 2 ^ suc k
@@ -153,3 +154,32 @@ module _ (t : TabSet) where
 -- THE LAW: a tab set or cleared in the words is one set or cleared in the list
 pub put-tab : (on : Bool) (k : ℕ) (t : TabSet) → line-tabs (with-tab on k t) ≡ set (line-tabs t) k on
 put-tab on k t = put-tested t on k (ltb k 64) (ltb k 128) refl refl
+
+-- the bits of a word from bit n on go with its rest by 2 ^ n
+below-pow : (n i : ℕ) → n ≤ i → 2 ^ n ≤ 2 ^ i
+below-pow n i h = go (decLt n i)
+  where
+    go : Dec (n < i) → 2 ^ n ≤ 2 ^ i
+    go (yes l) = omega (arith, pow-lt l)
+    go (no l) = let q : n ≡ i = omega arith in omega (arith, ap (λ (k : ℕ). 2 ^ k) q)
+
+rest-bit : (w n i : ℕ) → n ≤ i → eqb (w % 2 ^ n / 2 ^ i % 2) 1 ≡ false
+rest-bit w n i h =
+    let less : w % 2 ^ n < 2 ^ i = omega (arith, mod-lt w (pow-pos n), below-pow n i h) in
+    ap (λ (x : ℕ). eqb (x % 2) 1) (div-eq-of-lt less)
+
+none-bit : (i : ℕ) → eqb (0 / 2 ^ i % 2) 1 ≡ false
+none-bit i = ap (λ (x : ℕ). eqb (x % 2) 1) (div-eq-of-lt (pow-pos i))
+
+-- the tabs of the first n lines have none from line n + 1 on
+module _ (n : ℕ) (t : TabSet) (i : ℕ) (past : n ≤ i) where
+  cut-off : (a b c : Bool) → ltb n 64 ≡ a → ltb i 64 ≡ b → ltb i 128 ≡ c → getD (line-tabs (tabs-through n t)) i false ≡ false
+  unfolding tabs-through
+  cut-off a b false p q r = past-tab (tabs-through n t) i (ltb-false _ _ r)
+  cut-off true true true p q r = rw p (low-tab _ i (ltb-true _ _ q) ∙ rest-bit (t .low) n i past)
+  cut-off true false true p q r = rw p (high-tab _ i (ltb-false _ _ q) (ltb-true _ _ r) ∙ none-bit (i - 64))
+  cut-off false true true p q r = absurd (omega (arith, ltb-false n 64 p, ltb-true i 64 q))
+  cut-off false false true p q r = rw p (high-tab _ i (ltb-false _ _ q) (ltb-true _ _ r) ∙ rest-bit (t .high) (n - 64) (i - 64) (omega arith))
+
+  pub past-through : getD (line-tabs (tabs-through n t)) i false ≡ false
+  past-through = cut-off _ _ _ refl refl refl

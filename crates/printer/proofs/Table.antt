@@ -1,7 +1,9 @@
 -- Every case of the table holds, in both readings.
 use mathlib.Core.Path.{refl}
 use Rattle.sheet.specs.Edition.{lp2}
-use Rattle.sheet.specs.Form.{lines-allowed, spacing-allowed, rows-per-line, form-rows, empty-line, first-row, line-of, has-line, fits}
+use Rattle.sheet.specs.Form.{below-top, empty-line, first-row, fits, form-rows}
+use Rattle.sheet.specs.Form.{has-line, line-of, lines-allowed, margins-allowed, rows-per-line, spacing-allowed}
+use Rattle.sheet.specs.Form.{top-row, unmargined}
 use Rattle.glyph.specs.Words.{word, column, small, apart, each, well-formed, all-well-formed}
 use Rattle.glyph.specs.Entering.{cell, or-in, enter-narrow, enter-wide, underscore, enter-glyph, enter}
 use Rattle.printer.specs.Machine.{empty-store}
@@ -12,7 +14,7 @@ use Rattle.printer.specs.Steps.{tell, tell-step}
 use Rattle.printer.specs.Numbers.{close-report, note-number, told-report}
 use Rattle.printer.specs.Printing.{entered, print}
 use Rattle.printer.specs.Terminators.{first-tab, strike, newline, form-feed, carriage-return, tab-to, vertical-tab}
-use Rattle.printer.specs.Escapes.{tab, tab-here, clear-tabs, tab-item, in-turn, after-reset, reset, select, escape}
+use Rattle.printer.specs.Escapes.{tab, tab-here, clear-tabs, tab-item, in-turn, repitched, after-reset, reset, select, escape}
 use Rattle.printer.specs.Plotting.{plot, plots, plot-byte, plot-escape}
 use Rattle.printer.specs.Downloads.{stage, total, out-of-range, replaced, download}
 use Rattle.printer.specs.Alone.{prints, text-byte, alone}
@@ -22,10 +24,11 @@ use Rattle.printer.specs.Commands.{leave-download, leave-select, leave, 
 use Rattle.printer.specs.Table.{look-at, table, stated, found, Holds}
 
 pub cases : Holds
-unfolding lp2 lines-allowed spacing-allowed rows-per-line form-rows empty-line first-row line-of has-line fits word column small apart each
+unfolding lp2 margins-allowed unmargined top-row below-top
+    lines-allowed spacing-allowed rows-per-line form-rows empty-line first-row line-of has-line fits word column small apart each
     well-formed all-well-formed cell or-in enter-narrow enter-wide underscore enter-glyph enter empty-store word-tabs line-tabs no-tabs put-bit
     with-tab form-sound untabbed tabs-sound fresh-sound plot-sound sound close-line close-command closing tell tell-step note-number told-report close-report
-    entered print first-tab strike newline form-feed carriage-return tab-to vertical-tab tab tab-here clear-tabs tab-item in-turn
+    entered print first-tab strike newline form-feed carriage-return tab-to vertical-tab tab tab-here clear-tabs tab-item in-turn repitched
     after-reset reset select escape plot plots plot-byte plot-escape stage total out-of-range replaced download prints text-byte alone first-byte text-escape
     second-byte tab-byte payload-byte act step run item items cut-tabs cut-reset cut-select cut-checksum cut-download cut-escape cut set-tabs
     obey leave-download leave-select leave read-cut read reading look-at table stated found

@@ -1,6 +1,6 @@
 -- The printer byte by byte, with the half command that it remembers.
 use Prim.Native.Nat.{ℕ, _+_, _%_}
-use mathlib.Core.Bool.{cond}
+use mathlib.Core.Bool.{cond, _&&_}
 use mathlib.Core.List.{List, [], _∷_}
 use lib.Dec.{eqb, ltb}
 use lib.ListN.{set}
@@ -9,8 +9,10 @@ use Rattle.glyph.specs.Words.{high-first}
 use Rattle.printer.specs.declared.Load.{Load}
 use Rattle.printer.specs.declared.Pending.{Pending}
 use Rattle.printer.specs.declared.Pending.the-variants.{Nothing, Escape, Tabs, Reset, Select, SelectLow, CountHigh, CountLow, AddressHigh}
-use Rattle.printer.specs.declared.Pending.the-variants.{AddressLow, Payload}
+use Rattle.printer.specs.declared.Pending.the-variants.{AddressLow, Payload, Bracket}
+use Rattle.printer.specs.declared.Settings.{Settings}
 use Rattle.printer.specs.Alone.{alone}
+use Rattle.printer.specs.Brackets.{bracket, continues, no-settings, setting-byte}
 use Rattle.printer.specs.Downloads.{download}
 use Rattle.printer.specs.Escapes.{clear-tabs, escape, reset, select, tab-item}
 use Rattle.printer.specs.Machine.{Machine, with-job, with-pending, with-staging}
@@ -29,18 +31,19 @@ ended m = with-pending Nothing m
 unfoldable pub first-byte : Edition → List ℕ → ℕ → ℕ → Machine → Step
 first-byte e font b place m = cond (eqb b 0x1b) (waiting (Escape place) m) (alone e font b place m)
 
--- after ESC outside plot mode: F, c, Y and N begin longer commands; all tabs are cleared at F
-unfoldable pub text-escape : ℕ → ℕ → Machine → Step
-text-escape b place m =
+-- after ESC outside plot mode: F, c, Y, N and, where it can, [ begin longer commands; all tabs are cleared at F
+unfoldable pub text-escape : Edition → ℕ → ℕ → Machine → Step
+text-escape e b place m =
     cond (eqb b 0x46) (waiting (Tabs place) (clear-tabs m))
     (cond (eqb b 0x63) (waiting (Reset place) m)
     (cond (eqb b 0x59) (waiting (CountHigh place) m)
     (cond (eqb b 0x4e) (waiting (Select place) m)
-    (escape b place (ended m)))))
+    (cond (eqb b 0x5b && e .brackets) (waiting (Bracket place no-settings) m)
+    (escape e b place (ended m))))))
 
 -- the byte after ESC
 unfoldable pub second-byte : Edition → ℕ → ℕ → Machine → Step
-second-byte e b place m = cond (m .printer .head .plotting) (plot-escape e b place (ended m)) (text-escape b place m)
+second-byte e b place m = cond (m .printer .head .plotting) (plot-escape e b place (ended m)) (text-escape e b place m)
 
 -- a byte of a tab list: 00 ends it, any other is an item, at its own place
 unfoldable pub tab-byte : ℕ → ℕ → Machine → Step
@@ -57,6 +60,10 @@ payload-byte l b place m =
     (waiting (Payload place (loaded l b)) (with-staging (set (m .staging) (l .taken) b) m))
     (download (l .count) (l .address) (l .sum) b place (ended m))
 
+-- a byte after ESC [: a digit or a semicolon goes on with its numbers, any other ends it
+unfoldable pub bracket-byte : Edition → Settings → ℕ → ℕ → Machine → Step
+bracket-byte e s b place m = cond (continues b) (waiting (Bracket place (setting-byte b s)) m) (bracket e s b place (ended m))
+
 -- a byte that stands `here` in the job, by what is pending; the machine has the byte counted
 unfoldable pub act : Edition → List ℕ → Pending → ℕ → ℕ → Machine → Step
 act e font Nothing b here m = first-byte e font b here m
@@ -70,6 +77,7 @@ act e font (CountLow place high) b here m = waiting (AddressHigh place (high-fir
 act e font (AddressHigh place count) b here m = waiting (AddressLow place count b) m
 act e font (AddressLow place count high) b here m = waiting (Payload place (record { count = count; address = high-first high b; taken = 0; sum = 0 })) m
 act e font (Payload place load) b here m = payload-byte load b place m
+act e font (Bracket place settings) b here m = bracket-byte e settings b place m
 
 -- one byte: it is counted, then acted on; places count from 0
 unfoldable pub step : Edition → List ℕ → ℕ → Machine → Step

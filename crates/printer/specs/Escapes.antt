@@ -65,6 +65,10 @@ begin-plot m =
 unfoldable pub in-turn : ℕ → Machine → Machine → Step
 in-turn place m after = cond (m .printer .head .fresh) (quiet after) (noted OutOfTurn place m)
 
+-- the pitch changes anywhere where the edition lets it, else on fresh lines only
+unfoldable pub repitched : Edition → ℕ → Machine → Machine → Step
+repitched e place m after = cond (e .mixed) (quiet after) (in-turn place m after)
+
 -- the line dropped (store zeroed, column 0, no plot line), tabs and features off, normal pitch, download store zeroed; the row stays
 unfoldable pub after-reset : Edition → Machine → Machine
 after-reset e m = with-store empty-store (with-line (empty-line e) (with-style plain-style (with-head (fresh-head (m .printer .head .row)) (clear-tabs m))))
@@ -77,17 +81,17 @@ reset e b place m = cond (eqb b 0) (quiet (after-reset e m)) (noted WrongBytes p
 unfoldable pub select : ℕ → ℕ → ℕ → Machine → Step
 select high low place m = cond (eqb high 4 && eqb low 0) (quiet (set-downloaded true m)) (noted WrongBytes place m)
 
--- ESC and one byte, which with it is a whole command, or unknown: note 42. (F, c, Y and N begin longer commands and do not come here.)
-unfoldable pub escape : ℕ → ℕ → Machine → Step
-escape b place m =
+-- ESC and one byte, which with it is a whole command, or unknown: note 42. (F, c, Y, N and, where it can, [ begin longer commands and do not come here.)
+unfoldable pub escape : Edition → ℕ → ℕ → Machine → Step
+escape e b place m =
     cond (eqb b 0x35) (quiet (tab-here true m))
     (cond (eqb b 0x36) (quiet (tab-here false m))
     (cond (eqb b 0x3c) (quiet (set-elongated true m))
     (cond (eqb b 0x3d) (quiet (set-elongated false m))
     (cond (eqb b 0x61) (quiet (set-underscore true m))
     (cond (eqb b 0x62) (quiet (set-underscore false m))
-    (cond (eqb b 0x3e) (in-turn place m (set-pitch Compressed m))
-    (cond (eqb b 0x3f) (in-turn place m (set-pitch Normal m))
+    (cond (eqb b 0x3e) (repitched e place m (set-pitch Compressed m))
+    (cond (eqb b 0x3f) (repitched e place m (set-pitch Normal m))
     (cond (eqb b 0x64) (in-turn place m (begin-plot m))
     (cond (eqb b 0x65) (quiet m)
     (cond (eqb b 0x4f) (quiet (set-downloaded false m))

@@ -11,6 +11,7 @@ pub mod Steps
 pub mod Printing
 pub mod Terminators
 pub mod Escapes
+pub mod Brackets
 pub mod Plotting
 pub mod Downloads
 pub mod Alone

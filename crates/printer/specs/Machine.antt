@@ -8,7 +8,7 @@ use Rattle.sheet.specs.declared.Model.{Model}
 use Rattle.sheet.specs.declared.Pitch.the-variants.{Normal}
 use Rattle.sheet.specs.declared.Row.{Row}
 use Rattle.sheet.specs.Edition.{Edition, described}
-use Rattle.sheet.specs.Form.{blank-page, empty-line, top}
+use Rattle.sheet.specs.Form.{blank-page, empty-line, new-form, top-row}
 use Rattle.printer.specs.declared.Head.{Head}
 use Rattle.printer.specs.declared.Pending.{Pending}
 use Rattle.printer.specs.declared.Pending.the-variants.{Nothing}
@@ -45,13 +45,13 @@ fresh-head r = record { row = r; column = 0; fresh = true; plotted = false; plot
 abbrev pub plain-style : Style
 plain-style = record { pitch = Normal; elongated = false; underscore = false; downloaded = false }
 
--- the state at the start of a job: row 0, column 0, normal pitch, all features off, no tabs
+-- the state at the start of a job: the form's first row (row 0, as margins open as 1 and L), column 0, normal pitch, all features off, no tabs
 abbrev pub new-printer : Model → Form → Printer
-new-printer w f = record { model = w; form = f; job = 0; pending = Nothing; head = fresh-head top; style = plain-style; tabs = no-tabs }
+new-printer w f = record { model = w; form = f; job = 0; pending = Nothing; head = fresh-head (top-row f); style = plain-style; tabs = no-tabs }
 
 -- the shut state, L = 0
 abbrev pub shut : Model → Printer
-shut w = new-printer w (record { lines = 0; spacing = 0 })
+shut w = new-printer w (new-form 0 0)
 
 -- the edition of a state
 abbrev pub edition-of : Printer → Edition
@@ -78,6 +78,11 @@ with-staging staging m = record { printer = m .printer; page = m .page; line = m
 
 abbrev pub with-store : List ℕ → Machine → Machine
 with-store store m = record { printer = m .printer; page = m .page; line = m .line; staging = m .staging; store = store }
+
+abbrev pub with-form : Form → Machine → Machine
+with-form f m =
+    let p : Printer = m .printer in
+    with-printer (record { model = p .model; form = f; job = p .job; pending = p .pending; head = p .head; style = p .style; tabs = p .tabs }) m
 
 abbrev pub with-job : ℕ → Machine → Machine
 with-job n m =

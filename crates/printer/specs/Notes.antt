@@ -6,10 +6,10 @@ use Rattle.printer.specs.declared.Begun.{Begun}
 use Rattle.printer.specs.declared.Begun.the-variants.{Nowhere, At}
 use Rattle.printer.specs.declared.Fault.{Fault}
 use Rattle.printer.specs.declared.Fault.the-variants.{UnknownCommand, LineFull, Checksum, UnnamedControl, HighByte, OutOfTurn, WrongBytes}
-use Rattle.printer.specs.declared.Fault.the-variants.{PlotLine, DownloadRange, TabLine, IllFormed}
+use Rattle.printer.specs.declared.Fault.the-variants.{PlotLine, DownloadRange, TabLine, IllFormed, FormSetting}
 use Rattle.printer.specs.declared.Pending.{Pending}
 use Rattle.printer.specs.declared.Pending.the-variants.{Nothing, Escape, Tabs, Reset, Select, SelectLow, CountHigh, CountLow, AddressHigh}
-use Rattle.printer.specs.declared.Pending.the-variants.{AddressLow, Payload}
+use Rattle.printer.specs.declared.Pending.the-variants.{AddressLow, Payload, Bracket}
 use Rattle.printer.specs.declared.Printer.{Printer}
 use Rattle.printer.specs.Machine.{Machine, with-job, with-pending}
 use Rattle.printer.specs.Sound.{begun}
@@ -27,6 +27,7 @@ ends-command PlotLine = true
 ends-command DownloadRange = true
 ends-command TabLine = false
 ends-command IllFormed = true
+ends-command FormSetting = true
 
 -- a tab list is pending
 abbrev pub in-list : Pending → Bool
@@ -41,6 +42,7 @@ in-list (CountLow place high) = false
 in-list (AddressHigh place count) = false
 in-list (AddressLow place count high) = false
 in-list (Payload place load) = false
+in-list (Bracket place settings) = false
 
 -- what is pending after a note
 unfoldable pub left-pending : Fault → Pending → Pending

@@ -6,12 +6,13 @@ use Rattle.printer.specs.declared.Closing.{Closing}
 use Rattle.printer.specs.declared.Closing.the-variants.{Unsound, Unfinished, Unprinted, Clean}
 use Rattle.printer.specs.declared.Fault.{Fault}
 use Rattle.printer.specs.declared.Fault.the-variants.{UnknownCommand, LineFull, Checksum, UnnamedControl, HighByte, OutOfTurn, WrongBytes}
-use Rattle.printer.specs.declared.Fault.the-variants.{PlotLine, DownloadRange, TabLine, IllFormed}
+use Rattle.printer.specs.declared.Fault.the-variants.{PlotLine, DownloadRange, TabLine, IllFormed, FormSetting}
 use Rattle.printer.specs.Steps.{Told, form, note}
 
 -- the number of a note
 unfoldable pub note-number : Fault → ℕ
 note-number UnknownCommand = 42
+note-number FormSetting = 43
 note-number LineFull = 44
 note-number Checksum = 45
 note-number UnnamedControl = 46

@@ -1,15 +1,15 @@
 -- What the functions of src/ ask of the state and of what they are lent. A machine that is ready, with a font of its length, has it all.
-use Prim.Native.Nat.{ℕ, _+_, _≤_}
+use Prim.Native.Nat.{ℕ, _+_, _*_, _≤_}
 use mathlib.Core.List.{List}
 use mathlib.Core.Path.{_≡_}
 use lib.ListN.{length}
 use Rattle.sheet.specs.declared.Form.{Form}
 use Rattle.sheet.specs.Edition.{Edition}
-use Rattle.sheet.specs.Form.{form-rows, page-bytes}
+use Rattle.sheet.specs.Form.{page-bytes, rows-per-line}
 use Rattle.printer.specs.declared.NextTab.{NextTab}
 use Rattle.printer.specs.declared.NextTab.the-variants.{Tabbed, Untabbed}
 use Rattle.printer.specs.declared.Printer.{Printer}
-use Rattle.printer.specs.Facts.{Sound}
+use Rattle.printer.specs.Facts.{Sound, SoundForm}
 use Rattle.printer.specs.Machine.{Machine, store-size}
 
 -- to enter a character
@@ -19,17 +19,17 @@ pub record Writable (e : Edition) (p : Printer) (ln st font : List ℕ) : Type 0
   pub store : length st ≡ store-size
   pub resident : length font ≡ store-size
 
--- to strike a line: its nine wires stay on the form
+-- to strike a line: its nine wires stay within the margins, which lie on the form
 pub record Strikable (e : Edition) (p : Printer) (pg ln : List ℕ) : Type 0 where
-  pub lines : p .form .lines ≤ e .longest
-  pub row : p .head .row .0 + 9 ≤ form-rows (p .form)
+  pub form : SoundForm e (p .form)
+  pub row : p .head .row .0 + 9 ≤ p .form .bottom .0 * rows-per-line (p .form .spacing)
   pub page : length pg ≡ page-bytes e (p .form)
   pub line : length ln ≡ e .columns
 
 -- to obey any byte
 pub record Room (e : Edition) (p : Printer) (pg ln sg st font : List ℕ) : Type 0 where
-  pub lines : p .form .lines ≤ e .longest
-  pub row : p .head .row .0 + 9 ≤ form-rows (p .form)
+  pub form : SoundForm e (p .form)
+  pub row : p .head .row .0 + 9 ≤ p .form .bottom .0 * rows-per-line (p .form .spacing)
   pub column : p .head .column ≤ e .columns
   pub page : length pg ≡ page-bytes e (p .form)
   pub line : length ln ≡ e .columns

@@ -7,13 +7,13 @@ use lib.Dec.{eqb, leb, ltb}
 use lib.ListN.{drop}
 use Rattle.sheet.specs.declared.Form.{Form}
 use Rattle.sheet.specs.Edition.{Edition}
-use Rattle.sheet.specs.Form.{fits, lines-allowed, spacing-allowed}
+use Rattle.sheet.specs.Form.{below-top, fits, lines-allowed, margins-allowed, spacing-allowed, unmargined}
 use Rattle.printer.specs.declared.Begun.{Begun}
 use Rattle.printer.specs.declared.Begun.the-variants.{Nowhere, At}
 use Rattle.printer.specs.declared.Head.{Head}
 use Rattle.printer.specs.declared.Pending.{Pending}
 use Rattle.printer.specs.declared.Pending.the-variants.{Nothing, Escape, Tabs, Reset, Select, SelectLow, CountHigh, CountLow, AddressHigh}
-use Rattle.printer.specs.declared.Pending.the-variants.{AddressLow, Payload}
+use Rattle.printer.specs.declared.Pending.the-variants.{AddressLow, Payload, Bracket}
 use Rattle.printer.specs.declared.Printer.{Printer}
 use Rattle.printer.specs.Tabs.{line-tabs}
 
@@ -30,10 +30,11 @@ begun (CountLow place high) = At place
 begun (AddressHigh place count) = At place
 begun (AddressLow place count high) = At place
 begun (Payload place load) = At place
+begun (Bracket place settings) = At place
 
--- L and the spacing are in range
+-- L and the spacing are in range and the margins lie on the form; where the form can't change they are 1 and L
 unfoldable pub form-sound : Edition → Form → Bool
-form-sound e f = lines-allowed e (f .lines) && spacing-allowed (f .spacing)
+form-sound e f = lines-allowed e (f .lines) && spacing-allowed (f .spacing) && margins-allowed f && (e .brackets || unmargined f)
 
 -- none of some lines has a tab
 unfoldable pub untabbed : List Bool → Bool
@@ -44,19 +45,20 @@ untabbed (t ∷ ts) = not t && untabbed ts
 unfoldable pub tabs-sound : Form → List Bool → Bool
 tabs-sound f tabs = untabbed (drop (f .lines) tabs)
 
--- no more payload is taken than counted
-abbrev pub load-sound : Pending → Bool
-load-sound Nothing = true
-load-sound (Escape place) = true
-load-sound (Tabs place) = true
-load-sound (Reset place) = true
-load-sound (Select place) = true
-load-sound (SelectLow place high) = true
-load-sound (CountHigh place) = true
-load-sound (CountLow place high) = true
-load-sound (AddressHigh place count) = true
-load-sound (AddressLow place count high) = true
-load-sound (Payload place load) = leb (load .taken) (load .count)
+-- no more payload is taken than counted, and ESC [ has begun a command only where it can
+abbrev pub load-sound : Edition → Pending → Bool
+load-sound e Nothing = true
+load-sound e (Escape place) = true
+load-sound e (Tabs place) = true
+load-sound e (Reset place) = true
+load-sound e (Select place) = true
+load-sound e (SelectLow place high) = true
+load-sound e (CountHigh place) = true
+load-sound e (CountLow place high) = true
+load-sound e (AddressHigh place count) = true
+load-sound e (AddressLow place count high) = true
+load-sound e (Payload place load) = leb (load .taken) (load .count)
+load-sound e (Bracket place settings) = e .brackets
 
 -- a started command's place is below the job length
 abbrev pub place-sound : ℕ → Begun → Bool
@@ -80,6 +82,7 @@ at-most-escape (CountLow place high) = false
 at-most-escape (AddressHigh place count) = false
 at-most-escape (AddressLow place count high) = false
 at-most-escape (Payload place load) = false
+at-most-escape (Bracket place settings) = false
 
 -- plot mode holds only on a plot line, with no command begun but a lone ESC
 unfoldable pub plot-sound : Head → Pending → Bool
@@ -89,10 +92,11 @@ plot-sound h q = not (h .plotting) || (h .plotted && at-most-escape q)
 unfoldable pub sound : Edition → Printer → Bool
 sound e p =
     form-sound e (p .form)
+    && below-top (p .form) (p .head .row)
     && fits (p .form) (p .head .row)
     && leb (p .head .column) (e .width (p .style .pitch))
     && tabs-sound (p .form) (line-tabs (p .tabs))
-    && load-sound (p .pending)
+    && load-sound e (p .pending)
     && place-sound (p .job) (begun (p .pending))
     && fresh-sound (p .head)
     && plot-sound (p .head) (p .pending)

@@ -11,7 +11,7 @@ use Rattle.sheet.specs.Dots.{Strikes, marks, struck}
 use Rattle.sheet.specs.Edition.{Edition}
 use Rattle.printer.specs.declared.Pending.{Pending}
 use Rattle.printer.specs.declared.Pending.the-variants.{Nothing, Escape, Tabs, Reset, Select, SelectLow, CountHigh, CountLow, AddressHigh}
-use Rattle.printer.specs.declared.Pending.the-variants.{AddressLow, Payload}
+use Rattle.printer.specs.declared.Pending.the-variants.{AddressLow, Payload, Bracket}
 use Rattle.printer.specs.Machine.{Machine}
 
 -- a line, the row that it was struck at and its pitch
@@ -37,6 +37,7 @@ idle (CountLow place high) = false
 idle (AddressHigh place count) = false
 idle (AddressLow place count high) = false
 idle (Payload place load) = false
+idle (Bracket place settings) = false
 
 -- a byte strikes the line in progress: it is a terminator, and no data, outside plot mode
 unfoldable pub strikes : ℕ → Machine → Bool

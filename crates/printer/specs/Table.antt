@@ -6,6 +6,7 @@ use mathlib.Core.Path.{_≡_}
 use lib.ListN.{drop, getD, replicate, take}
 use Rattle.sheet.specs.declared.Model.the-variants.{Lp2}
 use Rattle.sheet.specs.Edition.{lp2}
+use Rattle.sheet.specs.Form.{new-form}
 use Rattle.glyph.specs.CapitalB.{capital-b}
 use Rattle.printer.specs.Bytes.{run}
 use Rattle.printer.specs.Closing.{closing}
@@ -54,7 +55,7 @@ pub record Case : Type 0 where
 abbrev pub start : ℕ → Bool → Machine
 start r plotted =
     with-head (record { row = record { 0 = r }; column = 0; fresh = not plotted; plotted = plotted; plotting = false })
-    (opened Lp2 (record { lines = 66; spacing = 6 }))
+    (opened Lp2 (new-form 66 6))
 
 -- a case that starts on the first row, and one that starts on another
 abbrev pub from-top : List ℕ → List Report → List Sight → Case

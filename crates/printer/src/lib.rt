@@ -36,6 +36,20 @@ pub struct Load {
     pub sum: u8,
 }
 
+// A number of a command that ESC [ begins: omitted so far, or given so far.
+pub enum Setting {
+    Omitted,
+    Given(u16),
+}
+
+// The numbers of a command that ESC [ begins, as far as they came, and the semicolons among them.
+pub struct Settings {
+    pub first: Setting,
+    pub second: Setting,
+    pub third: Setting,
+    pub semicolons: u8,
+}
+
 // The command whose last byte has not come, with the place of its first byte and all that is needed of its bytes so far.
 pub enum Pending {
     Nothing,
@@ -49,6 +63,7 @@ pub enum Pending {
     AddressHigh(u32, u16),
     AddressLow(u32, u16, u8),
     Payload(u32, Load),
+    Bracket(u32, Settings),
 }
 
 // The vertical tabs: bit n − 1 of the two words, counted from the low one's lowest, is line n's.
@@ -99,6 +114,7 @@ pub enum Fault {
     DownloadRange,
     TabLine,
     IllFormed,
+    FormSetting,
 }
 
 // What comes of a byte: nothing to tell, a finished form, or a note with its fault and place.

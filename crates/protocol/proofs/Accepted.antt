@@ -9,7 +9,7 @@ use lib.ListN.{length}
 use Rattle.sheet.specs.declared.Form.{Form}
 use Rattle.sheet.specs.declared.Model.{Model}
 use Rattle.sheet.specs.Edition.{Edition, described}
-use Rattle.sheet.specs.Form.{lines-allowed, spacing-allowed}
+use Rattle.sheet.specs.Form.{lines-allowed, new-form, spacing-allowed}
 use Rattle.printer.specs.Machine.{Machine, opened, store-size}
 use Rattle.printer.specs.Room.{Ready, Sized}
 use Rattle.printer.proofs.Soundness.{facts-sound}
@@ -77,7 +77,7 @@ module _ (w : Model) (lines spacing : ℕ) (font : List ℕ) (m : Machine) where
   e = described w
 
   abbrev form : Form
-  form = record { lines = lines; spacing = spacing }
+  form = new-form lines spacing
 
   fitted : (t : Fit) → fit e form font m ≡ t → lines-allowed e lines ≡ true → spacing-allowed spacing ≡ true
       → open-fitted w form t m .answer ≡ Done → Accepted w form font (open-fitted w form t m)

@@ -10,7 +10,7 @@ use lib.ListN.{length}
 use Rattle.sheet.specs.declared.Form.{Form}
 use Rattle.sheet.specs.declared.Model.{Model}
 use Rattle.sheet.specs.Edition.{Edition, described}
-use Rattle.sheet.specs.Form.{lines-allowed, spacing-allowed}
+use Rattle.sheet.specs.Form.{lines-allowed, new-form, spacing-allowed}
 use Rattle.printer.specs.declared.Closing.{Closing}
 use Rattle.printer.specs.declared.Closing.the-variants as closing
 use Rattle.printer.specs.declared.Event.{Event}
@@ -195,7 +195,7 @@ module _ (w : Model) (lines spacing : ℕ) (font : List ℕ) (m : Machine) where
   e = described w
 
   abbrev form : Form
-  form = record { lines = lines; spacing = spacing }
+  form = new-form lines spacing
 
   abbrev Unchanged : Opening → Type 0
   Unchanged o = refusal (o .answer) ≡ true → o .machine ≡ with-printer (shut w) m

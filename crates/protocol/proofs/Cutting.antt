@@ -4,6 +4,7 @@ use mathlib.Core.List.{List}
 use mathlib.Core.Path.{_≡_, _∙_}
 use native.Mathlib.Omega.{arith}
 use lib.ListN.{length}
+use Rattle.sheet.proofs.Editions.{Proper}
 use Rattle.sheet.specs.declared.Model.{Model}
 use Rattle.sheet.specs.Edition.{Edition, described}
 use Rattle.printer.specs.declared.Pending.the-variants.{Nothing}
@@ -16,11 +17,11 @@ use Rattle.protocol.specs.Protocol.{delivered, delivery, joined, room}
 use Rattle.protocol.proofs.PastLimit.{all-fit, past-limit, past-limit-from}
 
 -- from any machine that is ready and has nothing pending, for bytes that fit the job
-pub any-cutting-from : {e : Edition} {m : Machine} → Ready e m → m .printer .pending ≡ Nothing → (font : List ℕ) → length font ≡ store-size
+pub any-cutting-from : {e : Edition} → Proper e → {m : Machine} → Ready e m → m .printer .pending ≡ Nothing → (font : List ℕ) → length font ≡ store-size
     → (pieces : List (List ℕ))
     → m .printer .job + length (joined pieces) ≤ 4294967295 → delivery e (feeding e font) pieces m ≡ delivered (reading e font (joined pieces) m)
-any-cutting-from {e} {m} h idle font sized pieces l =
-    past-limit-from h idle font sized pieces ∙ all-fit (room m) (reading e font) (joined pieces) m (omega arith)
+any-cutting-from {e} proper {m} h idle font sized pieces l =
+    past-limit-from proper h idle font sized pieces ∙ all-fit (room m) (reading e font) (joined pieces) m (omega arith)
 
 -- DEMAND 3. A job that is opened and not refused, of at most 4,294,967,295 bytes, however it is cut: the calls give what the reading of the whole
 -- job gives, the same forms and notes in the same order and the same machine, and the last answer is 0.

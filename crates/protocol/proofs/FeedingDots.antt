@@ -16,6 +16,7 @@ use Rattle.sheet.specs.Edition.{Edition}
 use Rattle.sheet.specs.Form.{page-bytes}
 use Rattle.sheet.proofs.Editions.{Proper}
 use Rattle.sheet.proofs.Marks.{on-page}
+use Rattle.printer.proofs.Ready.{quiet-ready}
 use Rattle.printer.specs.declared.Event.{Event}
 use Rattle.printer.specs.declared.Event.the-variants.{Quiet, Finished, Noted}
 use Rattle.printer.specs.Bytes.{step}
@@ -24,11 +25,11 @@ use Rattle.printer.specs.Sound.{sound}
 use Rattle.printer.specs.Steps.{Step}
 use Rattle.printer.specs.Strikes.{PutBy, Strike, put-down, strike-all, strikes-of}
 use Rattle.printer.proofs.Dots.{AllFitting, fitting-append, fitting-on-form, strike-all-append, strikes-black, strikes-fitting, strikes-stay-black}
-use Rattle.printer.proofs.Keeping.{step-counts}
+use Rattle.printer.proofs.Keeping.{quiet-form, step-counts}
 use Rattle.printer.proofs.Pages.{step-page}
 use Rattle.printer.specs.Room.{Ready}
 use Rattle.printer.proofs.Soundness.{sound-facts}
-use Rattle.printer.proofs.StaysSound.{step-ready}
+use Rattle.printer.proofs.StaysSound.{step-fine}
 use Rattle.protocol.specs.declared.Answer.{Answer}
 use Rattle.protocol.specs.declared.Answer.the-variants.{Done, JobFull, Misfit, Unsound}
 use Rattle.protocol.specs.declared.Fit.{Fit}
@@ -38,35 +39,36 @@ use Rattle.protocol.specs.Strikes.{feeding-strikes, fitted-strikes, if-q
 use Rattle.protocol.proofs.Accepted.{right-fitting}
 
 module _ (e : Edition) (font : List ℕ) where
-  -- the page that a call leaves, and that its strikes fit the form
+  -- the page that a call leaves, and that its strikes fit the form in a proper edition
   record Inked (f : Form) (page : List ℕ) (ss : List Strike) (left : Feeding) : Type 0 where
     page-after : left .machine .page ≡ strike-all e ss page
-    fitting : AllFitting f ss
+    fitting : Proper e → AllFitting f ss
 
   unstruck : (f : Form) (a : Answer) (m : Machine) → Inked f (m .page) [] (stopped a m)
   unfolding strike-all
-  unstruck f a m = record { page-after = refl; fitting = tt }
+  unstruck f a m = record { page-after = refl; fitting = λ _. tt }
 
   heard-inked : (f : Form) (page : List ℕ) (ss rest : List Strike) (v : Event) (n : Machine) (after : Feeding)
-      → AllFitting f ss → n .page ≡ strike-all e ss page → Inked f (n .page) rest after
+      → (Proper e → AllFitting f ss) → n .page ≡ strike-all e ss page → (v ≡ Quiet → Inked f (n .page) rest after)
       → Inked f page (ss ++ if-quiet v rest) (heard v n after)
   unfolding heard if-quiet strike-all
   heard-inked f page ss rest Quiet n after on q k =
+      let on-it = k refl in
       record {
-        page-after = k .page-after ∙ ap (strike-all e rest) q ∙ sym (strike-all-append e ss rest page);
-        fitting = fitting-append f ss rest on (k .fitting);
+        page-after = on-it .page-after ∙ ap (strike-all e rest) q ∙ sym (strike-all-append e ss rest page);
+        fitting = λ p. fitting-append f ss rest (on p) (on-it .fitting p);
       }
   heard-inked f page ss rest Finished n after on q k =
-      record { page-after = q ∙ sym (strike-all-append e ss [] page); fitting = fitting-append f ss [] on tt }
+      record { page-after = q ∙ sym (strike-all-append e ss [] page); fitting = λ p. fitting-append f ss [] (on p) tt }
   heard-inked f page ss rest (Noted g place) n after on q k =
-      record { page-after = q ∙ sym (strike-all-append e ss [] page); fitting = fitting-append f ss [] on tt }
+      record { page-after = q ∙ sym (strike-all-append e ss [] page); fitting = λ p. fitting-append f ss [] (on p) tt }
 
   inked-if : (f : Form) (m : Machine) (ss : List Strike) (left : Feeding) (t : Bool) → Inked f (m .page) ss left
       → Inked f (m .page) (cond t ss []) (cond t left (stopped JobFull m))
   inked-if f m ss left true k = k
   inked-if f m ss left false k = unstruck f JobFull m
 
-  taken-inked : (bs : List ℕ) (m : Machine) (f : Form) → m .printer .form ≡ f → Ready e m
+  taken-inked : (bs : List ℕ) (m : Machine) (f : Form) → m .printer .form ≡ f → (Proper e → Ready e m)
       → Inked f (m .page) (taken-strikes e font bs m) (take-bytes e font bs m)
   unfolding taken-strikes take-bytes
   taken-inked [] m f q h = unstruck f Done m
@@ -74,15 +76,15 @@ module _ (e : Edition) (font : List ℕ) where
       let s : Step = step e font b m in
       inked-if f m _ _ (ltb (m .printer .job) limit)
       (heard-inked f (m .page) (strikes-of b m) _ (s .event) (s .machine) _
-      (subst (λ (g : Form). AllFitting g (strikes-of b m)) q (strikes-fitting h b)) (step-page e font b m)
-      (taken-inked bs (s .machine) f (step-counts e font b m .form ∙ q) (step-ready h font b)))
+      (λ p. subst (λ (g : Form). AllFitting g (strikes-of b m)) q (strikes-fitting (h p) b)) (step-page e font b m)
+      (λ v. taken-inked bs (s .machine) f (quiet-form (step-counts e font b m) v ∙ q) (λ p. quiet-ready (step-fine p (h p) font b) v)))
 
   fitted-inked : (piece : List ℕ) (m : Machine) (t : Fit) → fit e (m .printer .form) font m ≡ t → sound e (m .printer) ≡ true
       → Inked (m .printer .form) (m .page) (fitted-strikes e font piece t m) (feed-fitted e font piece t m)
   unfolding fitted-strikes feed-fitted
   fitted-inked piece m Right q s =
       taken-inked piece m (m .printer .form) refl
-      (record { printer = sound-facts e (m .printer) s; memory = right-fitting e (m .printer .form) font m refl q .memory })
+      (λ _. record { printer = sound-facts e (m .printer) s; memory = right-fitting e (m .printer .form) font m refl q .memory })
   fitted-inked piece m (Wrong lent) q s = unstruck (m .printer .form) (Misfit lent) m
 
   tested-inked : (piece : List ℕ) (m : Machine) (t : Bool) → sound e (m .printer) ≡ t
@@ -123,7 +125,7 @@ pub feeding-black : {e : Edition} → Proper e → (font piece : List ℕ) (m : 
     → Black (feeding e font piece m .machine .page) (dot-at e r g) ↔ (Black (m .page) (dot-at e r g) ⊎ PutBy e (feeding-strikes e font piece m) r g)
 unfolding strike-all
 feeding-black {e} proper font piece m r g on-row =
-    rw (feeding-page e font piece m) (go (feeding-strikes e font piece m) (feeding-inked e font piece m .fitting) (feeding-size e font piece m))
+    rw (feeding-page e font piece m) (go (feeding-strikes e font piece m) (feeding-inked e font piece m .fitting proper) (feeding-size e font piece m))
   where
     go : (ss : List Strike) → AllFitting (m .printer .form) ss → Size e font piece m ss
         → Black (strike-all e ss (m .page)) (dot-at e r g) ↔ (Black (m .page) (dot-at e r g) ⊎ PutBy e ss r g)
@@ -137,7 +139,7 @@ pub feeding-on-form : {e : Edition} → Proper e → (font piece : List ℕ) (m 
 unfolding put-down
 feeding-on-form {e} proper font piece m d p =
     let ss : List Strike = feeding-strikes e font piece m in
-    let on : OnForm e (m .printer .form) d = fitting-on-form proper (m .printer .form) ss (feeding-inked e font piece m .fitting) d p in
+    let on : OnForm e (m .printer .form) d = fitting-on-form proper (m .printer .form) ss (feeding-inked e font piece m .fitting proper) d p in
     (on, go (feeding-size e font piece m) (on-page on))
   where
     go : Size e font piece m (feeding-strikes e font piece m) → d < 8 * page-bytes e (m .printer .form) → d < 8 * length (m .page)

@@ -10,6 +10,8 @@ use borrow.Author.Tests.{le-ltb, lt-ltb, ltb-false, ltb-true}
 use lib.Dec.{leb·suc-suc, ltb}
 use lib.ListN.{drop, length, length-append, take}
 use lib.Seq.{take-all, take-append-add, take-append-le, take-nil}
+use Rattle.sheet.proofs.Editions.{Proper, described-proper}
+use Rattle.sheet.specs.Form.{new-form}
 use Rattle.sheet.specs.declared.Form.{Form}
 use Rattle.sheet.specs.declared.Model.{Model}
 use Rattle.sheet.specs.Edition.{Edition, described}
@@ -26,7 +28,7 @@ use Rattle.printer.specs.Steps.{Outcome, Step, form, note, tell, tell-step}
 use Rattle.printer.proofs.Appending.{run-append}
 use Rattle.printer.proofs.Keeping.{run-counts, step-counts, tell-printer}
 use Rattle.printer.proofs.Readings.{run-reading}
-use Rattle.printer.proofs.StaysSound.{opened-ready, run-ready, step-ready, tell-ready}
+use Rattle.printer.proofs.StaysSound.{opened-ready, run-ready, step-fine}
 use Rattle.protocol.specs.declared.Answer.the-variants.{Done, JobFull}
 use Rattle.protocol.specs.Answers.{report}
 use Rattle.protocol.specs.Calls.{Feeding, feeding, heard, opening, take-bytes}
@@ -56,7 +58,7 @@ ltb-add : (a n l : ℕ) (t : Bool) → ltb n l ≡ t → ltb (a + n) (a + l) ≡
 ltb-add a n l true q = lt-ltb (a + n) (a + l) (omega (arith, ltb-true n l q))
 ltb-add a n l false q = le-ltb (a + n) (a + l) (omega (arith, ltb-false n l q))
 
-module _ (e : Edition) (font : List ℕ) where
+module _ (e : Edition) (proper : Proper e) (font : List ℕ) where
   -- the bytes as far as there is room, one after the other
   abbrev up-to : ℕ → List ℕ → Machine → Delivery
   up-to n bs m = delivered-up-to n (run e font) bs m
@@ -66,14 +68,15 @@ module _ (e : Edition) (font : List ℕ) where
     ready : Ready e m
     left : room m ≡ n
 
-  has-step : (b n : ℕ) (m : Machine) → Has (suc n) m → Has n (step e font b m .machine)
-  has-step b n m h = record { ready = step-ready (h .ready) font b; left = omega (arith, h .left, step-counts e font b m .job) }
-
-  has-tell : (v : Event) (n : ℕ) (m : Machine) → Has n m → Has n (tell e v m .machine)
-  has-tell v n m h = record { ready = tell-ready v (h .ready); left = omega (arith, h .left, ap (λ (p : Printer). p .job) (tell-printer e v m)) }
+  has-step : (b n : ℕ) (m : Machine) → Has (suc n) m → Has n (tell-step e (step e font b m) .machine)
+  unfolding tell-step
+  has-step b n m h =
+      let s : Step = step e font b m in
+      let job = ap (λ (p : Printer). p .job) (tell-printer e (s .event) (s .machine)) in
+      record { ready = step-fine proper (h .ready) font b .ready; left = omega (arith, h .left, job, step-counts e font b m .job) }
 
   has-run : (bs : List ℕ) (n : ℕ) (m : Machine) → Has (length bs + n) m → Has n (run e font bs m .machine)
-  has-run bs n m h = record { ready = run-ready font bs (h .ready); left = omega (arith, h .left, run-counts e font bs m .job) }
+  has-run bs n m h = record { ready = run-ready proper font bs (h .ready); left = omega (arith, h .left, run-counts e font bs m .job) }
 
   -- With no byte, with no room, and with a byte that fits.
   no-byte : (n : ℕ) (m : Machine) → up-to n [] m ≡ ends Done m
@@ -97,12 +100,12 @@ module _ (e : Edition) (font : List ℕ) where
     abbrev GoesOn : List ℕ → Type 0
     GoesOn bs = (rest : List ℕ) (n : ℕ) (m : Machine) → length rest < length bs → Has n m → go rest m ≡ up-to n rest m
 
-    heard-run : (b : ℕ) (bs : List ℕ) (n : ℕ) (v : Event) (m : Machine) → Has n m → GoesOn (b ∷ bs)
-        → caller (take-bytes e font bs m) bs ≡ up-to n bs m
+    heard-run : (b : ℕ) (bs : List ℕ) (n : ℕ) (v : Event) (m : Machine) → Has n (tell e v m .machine) → GoesOn (b ∷ bs)
+        → (Has n m → caller (take-bytes e font bs m) bs ≡ up-to n bs m)
         → caller (heard v m (take-bytes e font bs m)) (b ∷ bs) ≡ after (tell e v m .told) (up-to n bs (tell e v m .machine))
     unfolding heard answered tell
-    heard-run b bs n event.Quiet m h k ih = ih
-    heard-run b bs n event.Finished m h k ih = ap (after (form (m .page) ∷ [])) (k bs n _ (omega arith) (has-tell event.Finished n m h))
+    heard-run b bs n event.Quiet m h k ih = ih h
+    heard-run b bs n event.Finished m h k ih = ap (after (form (m .page) ∷ [])) (k bs n _ (omega arith) h)
     heard-run b bs n (event.Noted f place) m h k ih = ap (after (note f place ∷ [])) (k bs n _ (omega arith) h)
 
     call-run : (bs : List ℕ) (n : ℕ) (m : Machine) → Has n m → GoesOn bs → caller (take-bytes e font bs m) bs ≡ up-to n bs m
@@ -113,7 +116,7 @@ module _ (e : Edition) (font : List ℕ) where
         let s : Step = step e font b m in
         rw (lt-ltb (m .printer .job) limit (omega (arith, h .left)), one-byte b bs n m)
         (heard-run b bs n (s .event) (s .machine) (has-step b n m h) k
-        (call-run bs n (s .machine) (has-step b n m h) (λ rest i x l w. k rest i x (omega arith) w)))
+        (λ g. call-run bs n (s .machine) g (λ rest i x l w. k rest i x (omega arith) w)))
 
   -- Some bytes and those after them, where the first do not fit and where they do.
   past : (xs ys : List ℕ) (n : ℕ) (m : Machine) → n < length xs → (up-to n xs m .answer ≡ JobFull) × (up-to n (xs ++ ys) m ≡ up-to n xs m)
@@ -162,11 +165,11 @@ module _ (e : Edition) (font : List ℕ) where
         (piece-run piece (joined pieces) (delivery e (feeding e font) pieces) (delivery-run pieces) n m h (ltb n (length piece)) refl)
 
 -- from any machine that is ready and has nothing pending
-pub past-limit-from : {e : Edition} {m : Machine} → Ready e m → m .printer .pending ≡ Nothing → (font : List ℕ) → length font ≡ store-size
+pub past-limit-from : {e : Edition} → Proper e → {m : Machine} → Ready e m → m .printer .pending ≡ Nothing → (font : List ℕ) → length font ≡ store-size
     → (pieces : List (List ℕ)) → delivery e (feeding e font) pieces m ≡ delivered-up-to (room m) (reading e font) (joined pieces) m
 unfolding delivered-up-to
-past-limit-from {e} {m} h idle font sized pieces =
-    delivery-run e font sized pieces (room m) m (record { ready = h; left = refl })
+past-limit-from {e} proper {m} h idle font sized pieces =
+    delivery-run e proper font sized pieces (room m) m (record { ready = h; left = refl })
     ∙ rw (run-reading e font (take (room m) (joined pieces)) m idle)
 
 -- A job that is opened and not refused, of any length and however it is cut.
@@ -181,9 +184,9 @@ module _ (w : Model) (font : List ℕ) (lines spacing : ℕ) (lent : Machine) (p
   -- THE LAW: the calls give what the reading gives of its first 4,294,967,295 bytes
   pub past-limit : delivery e (feeding e font) pieces start ≡ delivered-up-to 4294967295 (reading e font) (joined pieces) start
   past-limit =
-      let f : Form = record { lines = lines; spacing = spacing } in
+      let f : Form = new-form lines spacing in
       let a : Accepted w f font (opening w lines spacing font lent) = opening-accepted w lines spacing font lent done in
-      rw (a .machine) (past-limit-from (opened-ready w f (a .lines) (a .spacing)) refl font (a .font) pieces)
+      rw (a .machine) (past-limit-from (described-proper w) (opened-ready w lines spacing (a .lines) (a .spacing)) refl font (a .font) pieces)
 
   -- the last answer is 3 exactly where the job has more bytes
   pub full-past-limit : report (delivery e (feeding e font) pieces start .answer) ≡ plain 3 ↔ 4294967295 < length (joined pieces)

@@ -2,12 +2,13 @@
 use Prim.Native.Nat.{ℕ, zero, suc, _<_}
 use mathlib.Core.Bool.{Bool, true, false, cond}
 use mathlib.Core.List.{List, [], _∷_, map, append-nil}
-use mathlib.Core.Path.{_≡_, refl, sym, ap, _∙_}
+use mathlib.Core.Path.{_∙_, _≡_, ap, refl, subst, sym}
 use native.Mathlib.Omega.{arith}
 use lib.ListN.{drop, drop-of-length-le, getD, length, replicate}
+use Rattle.sheet.proofs.Editions.{described-proper}
 use Rattle.sheet.specs.declared.Model.the-variants.{Lp2}
 use Rattle.sheet.specs.Edition.{lp2}
-use Rattle.sheet.specs.Form.{lines-allowed, spacing-allowed}
+use Rattle.sheet.specs.Form.{first-row, lines-allowed, rows-per-line, spacing-allowed, top-row}
 use Rattle.printer.specs.declared.Fault.the-variants.{HighByte}
 use Rattle.printer.specs.Alone.{alone, prints, text-byte}
 use Rattle.printer.specs.Bytes.{act, first-byte, run, second-byte, step, text-escape}
@@ -19,7 +20,7 @@ use Rattle.printer.specs.Room.{Ready}
 use Rattle.printer.specs.Steps.{Outcome, before, note, tell, tell-step}
 use Rattle.printer.specs.Table.{Case, Findings, Meets, Seen, answer, bytes, found, from-top, look-at, note-at, number, start, stated, table}
 use Rattle.printer.proofs.Readings.{run-reading}
-use Rattle.printer.proofs.StaysSound.{opened-ready, step-ready}
+use Rattle.printer.proofs.StaysSound.{opened-ready, step-fine}
 use Rattle.protocol.specs.declared.Answer.{Answer}
 use Rattle.protocol.specs.declared.Answer.the-variants.{Done, Finished, Noted, JobFull, Unsound, Misfit, WrongLines, WrongSpacing}
 use Rattle.protocol.specs.declared.Lent.the-variants.{Page, LineStore, Staging, DownloadStore, Font}
@@ -144,8 +145,8 @@ third-byte (bytes bs ∷ ss) = getD bs 2 0
 third-byte (answer r ∷ ss) = 0
 
 top-ready : Ready lp2 at-top
-unfolding lp2 lines-allowed spacing-allowed
-top-ready = opened-ready Lp2 (record { lines = 66; spacing = 6 }) refl refl
+unfolding lp2 lines-allowed spacing-allowed top-row first-row rows-per-line
+top-ready = opened-ready Lp2 66 6 refl refl
 
 -- 1B 3C, which sets elongated characters, is used up and tells nothing; 80 behind it gives a note
 abbrev obeyed : List ℕ
@@ -167,8 +168,12 @@ noted-first = 0x80 ∷ 0x00 ∷ []
 abbrev noted-left : List ℕ → Machine
 noted-left font = step lp2 font 0x80 at-top .machine
 
+noted-tells : (font : List ℕ) → tell-step lp2 (step lp2 font 0x80 at-top) .machine ≡ noted-left font
+unfolding tell-step tell step act first-byte alone text-byte prints
+noted-tells font = refl
+
 noted-ready : (font : List ℕ) → Ready lp2 (noted-left font)
-noted-ready font = step-ready top-ready font 0x80
+noted-ready font = subst (Ready lp2) (noted-tells font) (step-fine (described-proper Lp2) top-ready font 0x80 .ready)
 
 noted-taken : (font : List ℕ)
     → (take-bytes lp2 font noted-first at-top .answer ≡ Noted HighByte 0)

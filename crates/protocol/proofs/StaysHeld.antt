@@ -1,17 +1,20 @@
 -- Opening and feeding leave a machine that memory can hold, whatever they answer.
-use Prim.Native.Nat.{ℕ, _^_, _<_}
+use Prim.Native.Nat.{ℕ, _<_, _^_, _≤_}
 use mathlib.Core.Bool.{Bool, true, false, cond, true≢false}
 use mathlib.Core.List.{List, [], _∷_}
-use mathlib.Core.Path.{_≡_, refl, sym, ap, _∙_}
+use mathlib.Core.Path.{_∙_, _≡_, ap, refl, subst, sym}
 use native.Mathlib.Omega.{arith}
 use borrow.Author.Tests.{ltb-true}
 use lib.Dec.{ltb}
 use Rattle.sheet.specs.declared.Form.{Form}
 use Rattle.sheet.specs.declared.Model.{Model}
 use Rattle.sheet.specs.Edition.{Edition, described}
-use Rattle.sheet.specs.Form.{lines-allowed, spacing-allowed}
+use Rattle.sheet.specs.Form.{lines-allowed, new-form, spacing-allowed}
 use Rattle.sheet.specs.Held.{AllBelow}
-use Rattle.sheet.proofs.Editions.{Countable}
+use Rattle.sheet.proofs.Editions.{Countable, Proper}
+use Rattle.printer.proofs.Keeping.{tell-printer}
+use Rattle.printer.proofs.Ready.{quiet-ready}
+use Rattle.printer.specs.Facts.{Sound}
 use Rattle.printer.specs.declared.Event.{Event}
 use Rattle.printer.specs.declared.Event.the-variants as event
 use Rattle.printer.specs.Bytes.{step}
@@ -19,10 +22,10 @@ use Rattle.printer.specs.Held.{Held, HeldMemory}
 use Rattle.printer.specs.Machine.{Machine, limit, shut, with-printer}
 use Rattle.printer.specs.Room.{Ready}
 use Rattle.printer.specs.Sound.{sound}
-use Rattle.printer.specs.Steps.{Step}
+use Rattle.printer.specs.Steps.{Step, tell-step}
 use Rattle.printer.proofs.Soundness.{sound-facts}
 use Rattle.printer.proofs.StaysHeld.{blank-held, new-held, opened-held, step-held}
-use Rattle.printer.proofs.StaysSound.{step-ready}
+use Rattle.printer.proofs.StaysSound.{step-fine}
 use Rattle.protocol.specs.declared.Answer.{Answer}
 use Rattle.protocol.specs.declared.Answer.the-variants.{Finished, JobFull, Misfit, Unsound, WrongLines, WrongSpacing}
 use Rattle.protocol.specs.declared.Fit.{Fit}
@@ -38,14 +41,14 @@ module _ (w : Model) (lines spacing : ℕ) (font : List ℕ) (m : Machine) (l : 
   e = described w
 
   abbrev form : Form
-  form = record { lines = lines; spacing = spacing }
+  form = new-form lines spacing
 
   shut-held : Held (with-printer (shut w) m)
-  shut-held = record { printer = new-held w _ (omega arith) (omega arith); memory = h }
+  shut-held = record { printer = new-held w 0 0 (omega arith) (omega arith); memory = h }
 
   fitted-held : (t : Fit) → fit e form font m ≡ t → Held (open-fitted w form t m .machine)
   unfolding open-fitted
-  fitted-held Right q = opened-held w form l s h (right-fitting e form font m refl q .memory)
+  fitted-held Right q = opened-held w lines spacing l s h (right-fitting e form font m refl q .memory)
   fitted-held (Wrong lent) q = shut-held
 
   tested-held : (a b : Bool)
@@ -59,53 +62,71 @@ module _ (w : Model) (lines spacing : ℕ) (font : List ℕ) (m : Machine) (l : 
   opening-held = tested-held (lines-allowed e lines) (spacing-allowed spacing)
 
 -- Feeding.
-module _ {e : Edition} (countable : Countable e) (font : List ℕ) where
+module _ {e : Edition} (proper : Proper e) (countable : Countable e) (font : List ℕ) where
   -- ready, and what memory can hold
   record Ongoing (m : Machine) : Type 0 where
     ready : Ready e m
     held : Held m
 
-  step-ongoing : (b : ℕ) (m : Machine) → b < 256 → m .printer .job < limit → Ongoing m → Ongoing (step e font b m .machine)
-  step-ongoing b m byte room h =
-      record { ready = step-ready (h .ready) font b; held = step-held (h .ready) (h .held) countable font b (omega arith) byte }
+  -- what memory can hold, with a form that a page can be lent for
+  record Goes (m : Machine) : Type 0 where
+    held : Held m
+    lines : m .printer .form .lines ≤ e .longest
 
-  heard-ongoing : (v : Event) (x : Machine) (f : Feeding) → Ongoing x → Ongoing (f .machine) → Ongoing (heard v x f .machine)
-  unfolding heard
-  heard-ongoing event.Quiet x f h k = k
-  heard-ongoing event.Finished x f h k = h
-  heard-ongoing (event.Noted g place) x f h k = h
+  ongoing-goes : {m : Machine} → Ongoing m → Goes m
+  ongoing-goes h = record { held = h .held; lines = h .ready .printer .form .most }
 
-  ongoing-if : (m : Machine) (f : Feeding) (t : Bool) → (t ≡ true → Ongoing (f .machine)) → Ongoing m → Ongoing (cond t f (stopped JobFull m) .machine)
-  ongoing-if m f true k h = k refl
-  ongoing-if m f false k h = h
-
-  take-ongoing : (bs : List ℕ) (m : Machine) → AllBelow 256 bs → Ongoing m → Ongoing (take-bytes e font bs m .machine)
-  unfolding take-bytes
-  take-ongoing [] m bytes h = h
-  take-ongoing (b ∷ bs) m bytes h =
+  step-goes : (b : ℕ) (m : Machine) → b < 256 → m .printer .job < limit → Ongoing m → Goes (step e font b m .machine)
+  unfolding tell-step
+  step-goes b m byte room h =
       let s : Step = step e font b m in
-      ongoing-if m _ (ltb (m .printer .job) limit)
-      (λ q.
-      let next : Ongoing (s .machine) = step-ongoing b m (bytes .0) (ltb-true _ _ q) h in
-      heard-ongoing (s .event) (s .machine) _ next (take-ongoing bs (s .machine) (bytes .1) next))
-      h
+      let same = tell-printer e (s .event) (s .machine) in
+      let sound : Sound e (s .machine .printer) = subst (Sound e) same (step-fine proper (h .ready) font b .ready .printer) in
+      record { held = step-held proper (h .ready) (h .held) countable font b room byte; lines = sound .form .most }
 
-  -- what a feeding leaves: where it is not refused, a machine that is ready
+  quiet-ongoing : (b : ℕ) (m : Machine) → b < 256 → m .printer .job < limit → Ongoing m → step e font b m .event ≡ event.Quiet
+      → Ongoing (step e font b m .machine)
+  quiet-ongoing b m byte room h q =
+      record { ready = quiet-ready (step-fine proper (h .ready) font b) q; held = step-goes b m byte room h .held }
+
+  heard-goes : (v : Event) (x : Machine) (f : Feeding) → Goes x → (v ≡ event.Quiet → Goes (f .machine)) → Goes (heard v x f .machine)
+  unfolding heard
+  heard-goes event.Quiet x f h k = k refl
+  heard-goes event.Finished x f h k = h
+  heard-goes (event.Noted g place) x f h k = h
+
+  goes-if : (m : Machine) (f : Feeding) (t : Bool) → (t ≡ true → Goes (f .machine)) → Goes m → Goes (cond t f (stopped JobFull m) .machine)
+  goes-if m f true k h = k refl
+  goes-if m f false k h = h
+
+  take-goes : (bs : List ℕ) (m : Machine) → AllBelow 256 bs → Ongoing m → Goes (take-bytes e font bs m .machine)
+  unfolding take-bytes
+  take-goes [] m bytes h = ongoing-goes h
+  take-goes (b ∷ bs) m bytes h =
+      let s : Step = step e font b m in
+      goes-if m _ (ltb (m .printer .job) limit)
+      (λ q.
+      let room = ltb-true (m .printer .job) limit q in
+      heard-goes (s .event) (s .machine) _ (step-goes b m (bytes .0) room h)
+      (λ v. take-goes bs (s .machine) (bytes .1) (quiet-ongoing b m (bytes .0) room h v)))
+      (ongoing-goes h)
+
+  -- what a feeding leaves: where it is not refused, a form that a page can be lent for
   record Left (f : Feeding) : Type 0 where
     held : Held (f .machine)
-    ready : refusal (f .answer) ≡ false → Ready e (f .machine)
+    lines : refusal (f .answer) ≡ false → f .machine .printer .form .lines ≤ e .longest
 
   module _ (piece : List ℕ) (m : Machine) (bytes : AllBelow 256 piece) (h : Held m) where
     refused-left : (a : Answer) → refusal a ≡ true → Left (stopped a m)
-    refused-left a r = record { held = h; ready = λ q. absurd (true≢false (sym r ∙ q)) }
+    refused-left a r = record { held = h; lines = λ q. absurd (true≢false (sym r ∙ q)) }
 
     fitted-left : (t : Fit) → fit e (m .printer .form) font m ≡ t → sound e (m .printer) ≡ true → Left (feed-fitted e font piece t m)
     unfolding feed-fitted refusal
     fitted-left Right q s =
         let ready : Ready e m =
         record { printer = sound-facts e (m .printer) s; memory = right-fitting e (m .printer .form) font m refl q .memory } in
-        let after : Ongoing (take-bytes e font piece m .machine) = take-ongoing piece m bytes (record { ready = ready; held = h }) in
-        record { held = after .held; ready = λ _. after .ready }
+        let after : Goes (take-bytes e font piece m .machine) = take-goes piece m bytes (record { ready = ready; held = h }) in
+        record { held = after .held; lines = λ _. after .lines }
     fitted-left (Wrong lent) q s = refused-left (Misfit lent) refl
 
     tested-left : (t : Bool) → sound e (m .printer) ≡ t
@@ -125,4 +146,4 @@ module _ {e : Edition} (countable : Countable e) (font : List ℕ) where
     -- and so does a blank page lent after a finished form
     pub finished-held : feeding e font piece m .answer ≡ Finished → Held (relent e (feeding e font piece m .machine))
     unfolding refusal
-    finished-held q = blank-held (left .ready (ap refusal q)) (left .held)
+    finished-held q = blank-held countable (left .lines (ap refusal q)) (left .held)

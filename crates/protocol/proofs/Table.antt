@@ -7,11 +7,12 @@ use native.Mathlib.Omega.{arith}
 use borrow.Author.Tests.{leb-true}
 use lib.Dec.{T, leb}
 use lib.ListN.{length}
+use Rattle.sheet.proofs.Editions.{described-proper}
 use Rattle.sheet.specs.declared.Form.{Form}
 use Rattle.sheet.specs.declared.Pitch.the-variants.{Normal}
 use Rattle.sheet.specs.declared.Model.the-variants.{Lp2}
 use Rattle.sheet.specs.Edition.{lp2}
-use Rattle.sheet.specs.Form.{form-rows, lines-allowed, rows-per-line, spacing-allowed}
+use Rattle.sheet.specs.Form.{first-row, lines-allowed, new-form, rows-per-line, spacing-allowed, top-row}
 use Rattle.printer.specs.Commands.{reading}
 use Rattle.printer.specs.Machine.{Machine, opened, store-size}
 use Rattle.printer.specs.Numbers.{plain}
@@ -30,11 +31,12 @@ fresh-row : (plotted : Bool) → T (not plotted) → (_≡_ {A = ℕ} 0 0) × (p
 fresh-row false t = (refl, refl)
 
 start-ready : (r : ℕ) (plotted : Bool) → r + 9 ≤ 792 → Ready lp2 (start r plotted)
-unfolding form-rows rows-per-line lines-allowed spacing-allowed lp2
+unfolding rows-per-line top-row first-row lines-allowed spacing-allowed lp2
 start-ready r plotted l =
-    let f : Form = record { lines = 66; spacing = 6 } in
-    let h : Ready lp2 (opened Lp2 f) = opened-ready Lp2 f refl refl in
-    let head : SoundHead f (lp2 .width Normal) (start r plotted .printer .head) = record { row = l; column = omega arith; fresh = fresh-row plotted } in
+    let f : Form = new-form 66 6 in
+    let h : Ready lp2 (opened Lp2 f) = opened-ready Lp2 66 6 refl refl in
+    let head : SoundHead f (lp2 .width Normal) (start r plotted .printer .head) =
+    record { above = omega arith; row = l; column = omega arith; fresh = fresh-row plotted } in
     record {
       printer = record { form = h .printer .form; head = head; tabs = h .printer .tabs; load = tt; place = tt; plot = λ t. absurd t };
       memory = h .memory;
@@ -64,7 +66,8 @@ module _ (font : List ℕ) (sized : length font ≡ store-size) where
       let t = and-eq-true-iff _ _ .0 q in
       let l : length (c .job) ≤ 200 = leb-true _ _ (t .1) in
       simp append-nil at
-      (any-cutting-from (start-ready (c .row) (c .plotted) (leb-true _ _ (t .0))) refl font sized (c .job ∷ []) (simp append-nil (omega arith)))
+      (any-cutting-from (described-proper Lp2) (start-ready (c .row) (c .plotted) (leb-true _ _ (t .0))) refl font sized
+      (c .job ∷ []) (simp append-nil (omega arith)))
 
   found-same : (cs : List Case) → all-fed cs ≡ true
       → map (found (λ (job : List ℕ) (m : Machine). outcome (whole job m))) cs ≡ map (found (reading lp2 font)) cs

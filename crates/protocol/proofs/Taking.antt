@@ -27,7 +27,7 @@ pub ready-room : {e : Edition} → Proper e → {p : Printer} {page line staging
     → length font ≡ store-size → Room e p page line staging store font
 ready-room proper {p} h f =
     record {
-      lines = h .printer .form .most;
+      form = h .printer .form;
       row = h .printer .head .row;
       column = omega (arith, h .printer .head .column, proper .wide (p .style .pitch));
       page = h .memory .page;

@@ -6,7 +6,7 @@ use mathlib.Core.Path.{_≡_, refl, ap, sym, _∙_}
 use Rattle.sheet.specs.declared.Form.{Form}
 use Rattle.sheet.specs.declared.Model.{Model}
 use Rattle.sheet.specs.Edition.{Edition, described}
-use Rattle.sheet.specs.Form.{lines-allowed, spacing-allowed}
+use Rattle.sheet.specs.Form.{lines-allowed, new-form, spacing-allowed}
 use Rattle.printer.specs.Machine.{Machine, opened, shut, with-printer}
 use Rattle.printer.specs.Room.{Sized}
 use Rattle.printer.specs.Sound.{sound}
@@ -25,7 +25,7 @@ module _ (w : Model) (lines spacing : ℕ) (font : List ℕ) (m : Machine) where
   e = described w
 
   abbrev form : Form
-  form = record { lines = lines; spacing = spacing }
+  form = new-form lines spacing
 
   pub open-lines : lines-allowed e lines ≡ false → unopened w WrongLines m ≡ opening w lines spacing font m
   unfolding opening

@@ -7,7 +7,7 @@ use lib.ListN.{length}
 use Rattle.sheet.specs.declared.Form.{Form}
 use Rattle.sheet.specs.declared.Model.{Model}
 use Rattle.sheet.specs.Edition.{Edition, described}
-use Rattle.sheet.specs.Form.{lines-allowed, page-bytes, spacing-allowed}
+use Rattle.sheet.specs.Form.{lines-allowed, new-form, page-bytes, spacing-allowed}
 use Rattle.printer.specs.declared.Event.{Event}
 use Rattle.printer.specs.declared.Event.the-variants as event
 use Rattle.printer.specs.Bytes.{step}
@@ -52,7 +52,7 @@ open-fitted w f (Wrong lent) m = unopened w (Misfit lent) m
 unfoldable pub opening : Model → ℕ → ℕ → List ℕ → Machine → Opening
 opening w lines spacing font m =
     let e : Edition = described w in
-    let f : Form = record { lines = lines; spacing = spacing } in
+    let f : Form = new-form lines spacing in
     cond (lines-allowed e lines)
     (cond (spacing-allowed spacing) (open-fitted w f (fit e f font m) m) (unopened w WrongSpacing m))
     (unopened w WrongLines m)

@@ -13,6 +13,7 @@ pub fn note_number(fault: Fault) -> u64
 {
     match fault {
         Fault::UnknownCommand => 42,
+        Fault::FormSetting => 43,
         Fault::LineFull => 44,
         Fault::Checksum => 45,
         Fault::UnnamedControl => 46,

@@ -5,7 +5,8 @@ ghost use Prim.Native.Nat.{ℕ, _≤_, _<_};
 ghost use lib.ListN.{length};
 ghost use Rattle.glyph.specs.Words.{high-first};
 ghost use Rattle.printer.specs.Alone.{alone, text-byte};
-ghost use Rattle.printer.specs.Bytes.{act, first-byte, second-byte, step, tab-byte, text-escape, waiting};
+ghost use Rattle.printer.specs.Bytes.{act, bracket-byte, first-byte, second-byte, step, tab-byte, text-escape, waiting};
+ghost use Rattle.printer.specs.Facts.{SoundForm};
 ghost use Rattle.printer.specs.Given.{given, machine, over};
 ghost use Rattle.printer.specs.Machine.{Machine, edition-of, limit, with-printer};
 ghost use Rattle.printer.specs.Room.{Room, Strikable, Writable};
@@ -16,7 +17,10 @@ use carriage::terminators::carriage_return;
 use carriage::terminators::form_feed;
 use carriage::terminators::newline;
 use carriage::terminators::vertical_tab;
+use codes::continues;
 use codes::prints;
+use commands::brackets::bracket;
+use commands::brackets::setting_byte;
 use commands::downloads::payload_byte;
 use commands::escapes::escape;
 use commands::escapes::reset;
@@ -26,7 +30,10 @@ use printer::Fault;
 use printer::Load;
 use printer::Pending;
 use printer::Printer;
+use printer::Setting;
+use printer::Settings;
 use printer::Stepped;
+use sheet::sizes::brackets;
 use state::parts::clear_tabs;
 use state::parts::noted;
 use state::parts::quiet;
@@ -116,15 +123,38 @@ fn first_byte(
     }
 }
 
+// ESC [: a command begins where it can, else there is none of the name.
+fn bracket_begun(p: Printer, place: u32) -> Stepped
+    ensures { λ r. ⌜ ((m : Machine) → over m r ≡ text-escape (edition-of p) 0x5b place (with-printer p m)) ⌝ }
+{
+    let model = p.model;
+    if brackets(model) {
+        let none = Settings {
+            first: Setting::Omitted,
+            second: Setting::Omitted,
+            third: Setting::Omitted,
+            semicolons: 0,
+        };
+        waiting(p, Pending::Bracket(place, none))
+    } else {
+        noted(
+            with_pending(p, Pending::Nothing),
+            Fault::UnknownCommand,
+            place,
+        )
+    }
+}
+
 // The byte after ESC, outside plot mode.
 fn text_escape(p: Printer, b: u8, place: u32) -> Stepped
-    ensures { λ r. ⌜ ((m : Machine) → over m r ≡ text-escape b place (with-printer p m)) ⌝ }
+    ensures { λ r. ⌜ ((m : Machine) → over m r ≡ text-escape (edition-of p) b place (with-printer p m)) ⌝ }
 {
     match b {
         0x46 => waiting(clear_tabs(p), Pending::Tabs(place)),
         0x63 => waiting(p, Pending::Reset(place)),
         0x59 => waiting(p, Pending::CountHigh(place)),
         0x4e => waiting(p, Pending::Select(place)),
+        0x5b => bracket_begun(p, place),
         _ => escape(with_pending(p, Pending::Nothing), b, place),
     }
 }
@@ -150,6 +180,18 @@ fn tab_byte(p: Printer, b: u8, here: u32) -> Stepped
         waiting(p, Pending::Nothing)
     } else {
         tab_item(p, b, here)
+    }
+}
+
+// A byte after ESC [: a digit or a semicolon goes on with its numbers, any other ends it.
+fn bracket_byte(p: Printer, s: Settings, b: u8, place: u32) -> Stepped
+    requires { ⌜ SoundForm (edition-of p) (p .form) ⌝ }
+    ensures { λ r. ⌜ ((m : Machine) → over m r ≡ bracket-byte (edition-of p) s b place (with-printer p m)) ⌝ }
+{
+    if continues(b) {
+        waiting(p, Pending::Bracket(place, setting_byte(s, b)))
+    } else {
+        bracket(with_pending(p, Pending::Nothing), s, b, place)
     }
 }
 
@@ -194,6 +236,7 @@ fn act(
             waiting(p, Pending::Payload(place, load))
         }
         Pending::Payload(place, load) => payload_byte(p, load, b, place, staging, store),
+        Pending::Bracket(place, settings) => bracket_byte(p, settings, b, place),
     }
 }
 

@@ -7,10 +7,13 @@ use native.Mathlib.Omega.{arith}
 use borrow.Author.Tests.{not-true}
 use lib.Dec.{eqb, ltb}
 use lib.ListN.{drop, length, take}
+use Rattle.sheet.proofs.Editions.{Proper}
 use Rattle.sheet.specs.Edition.{Edition}
+use Rattle.printer.proofs.Ready.{quiet-ready}
 use Rattle.printer.specs.declared.Event.the-variants.{Quiet}
 use Rattle.printer.specs.declared.Pending.{Pending}
 use Rattle.printer.specs.declared.Pending.the-variants.{Nothing, Escape, Tabs, Reset, Select, SelectLow, CountHigh, CountLow, AddressHigh, AddressLow, Payload}
+use Rattle.printer.specs.declared.Pending.the-variants.{Bracket}
 use Rattle.printer.specs.Alone.{alone, prints, text-byte}
 use Rattle.printer.specs.Bytes.{act, first-byte, payload-byte, run, step}
 use Rattle.printer.specs.Machine.{Machine, limit, with-job}
@@ -19,7 +22,7 @@ use Rattle.printer.specs.Printing.{print}
 use Rattle.printer.specs.Room.{Ready}
 use Rattle.printer.specs.Steps.{Step, silent, tell, tell-step}
 use Rattle.printer.proofs.Keeping.{step-counts}
-use Rattle.printer.proofs.StaysSound.{step-ready}
+use Rattle.printer.proofs.StaysSound.{step-fine}
 use Rattle.protocol.specs.Calls.{Feeding, heard, one-more, take-bytes}
 use Rattle.protocol.specs.Given.{more}
 use Rattle.protocol.proofs.Taking.{more-zero}
@@ -56,6 +59,7 @@ module _ (e : Edition) (font : List ℕ) (b here n : ℕ) (m : Machine) where
   quiet-byte (CountLow place high) h = absurd (true≢false (sym h))
   quiet-byte (AddressHigh place count) h = absurd (true≢false (sym h))
   quiet-byte (AddressLow place count high) h = absurd (true≢false (sym h))
+  quiet-byte (Bracket place settings) h = absurd (true≢false (sym h))
 
 -- n bytes of a piece lead from m to another machine, with nothing to tell: to take the piece is to take its rest from there. The model stays, and what
 -- was ready is so still
@@ -66,7 +70,7 @@ pub record Leads (e : Edition) (font piece : List ℕ) (n : ℕ) (m after : Mach
   pub one-by-one : run e font (take n piece) m ≡ silent after
   pub same : take-bytes e font piece m ≡ more n (take-bytes e font (drop n piece) after)
 
-module _ (e : Edition) (font : List ℕ) where
+module _ (e : Edition) (proper : Proper e) (font : List ℕ) where
   leads-nowhere : (piece : List ℕ) (m : Machine) → Leads e font piece 0 m m
   unfolding run
   leads-nowhere piece m = record { within = omega arith; model = refl; ready = λ h. h; one-by-one = refl; same = more-zero _ }
@@ -81,7 +85,7 @@ module _ (e : Edition) (font : List ℕ) where
       record {
         within = omega (arith, h .within);
         model = h .model ∙ step-counts e font b m .model;
-        ready = λ r. h .ready (step-ready r font b);
+        ready = λ r. h .ready (quiet-ready (step-fine proper r font b) quiet);
         one-by-one = simp (quiet) (h .one-by-one);
         same = simp (room, quiet) (ap one-more (h .same) ∙ ap (λ (k : ℕ). record { answer = rest .answer; taken = k; machine = rest .machine }) count);
       }

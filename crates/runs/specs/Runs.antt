@@ -11,6 +11,7 @@ use Rattle.glyph.specs.Entering.{cell}
 use Rattle.printer.specs.declared.Load.{Load}
 use Rattle.printer.specs.declared.Pending.{Pending}
 use Rattle.printer.specs.declared.Pending.the-variants.{Nothing, Escape, Tabs, Reset, Select, SelectLow, CountHigh, CountLow, AddressHigh, AddressLow, Payload}
+use Rattle.printer.specs.declared.Pending.the-variants.{Bracket}
 use Rattle.printer.specs.declared.Printer.{Printer}
 use Rattle.printer.specs.Alone.{prints}
 use Rattle.printer.specs.Bytes.{step}
@@ -41,6 +42,7 @@ goes-on e b (CountHigh place) p = false
 goes-on e b (CountLow place high) p = false
 goes-on e b (AddressHigh place count) p = false
 goes-on e b (AddressLow place count high) p = false
+goes-on e b (Bracket place settings) p = false
 
 -- how many bytes a run has, and the machine that it leads to
 pub record Run : Type 0 where

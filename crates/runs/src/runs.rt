@@ -89,5 +89,6 @@ pub fn run(
         Pending::CountLow(_, _) => none(p),
         Pending::AddressHigh(_, _) => none(p),
         Pending::AddressLow(_, _, _) => none(p),
+        Pending::Bracket(_, _) => none(p),
     }
 }

@@ -3,7 +3,7 @@ use Prim.Native.Nat.{ℕ, _+_, _*_, _^_, _≤_, _<_}
 use mathlib.Core.Path.{_≡_, refl, sym, ap}
 use mathlib.Core.Bool.{Bool, true, false, cond, _||_, true≢false}
 use native.Mathlib.Omega.{arith}
-use lib.Dec.{eqb}
+use lib.Dec.{T, eqb}
 use borrow.Author.Tests.{eqb-true}
 use Rattle.sheet.specs.declared.Model.{Model}
 use Rattle.sheet.specs.declared.Model.the-variants.{Lp2, Dg6215}
@@ -12,11 +12,13 @@ use Rattle.sheet.specs.declared.Pitch.the-variants.{Normal, Compressed}
 use Rattle.sheet.specs.Edition.{Edition, apart-by, described, dg6215, lp2}
 use Rattle.sheet.specs.Form.{spacing-allowed, rows-per-line}
 
--- The line store holds every position of a line, every position stands on the row, and a column takes one position at least.
+-- The line store holds every position of a line, every position stands on the row, a column takes one position at least, and where the
+-- pitch may change anywhere, a line is as wide in either.
 pub record Proper (e : Edition) : Type 0 where
   pub wide : (p : Pitch) → e .width p ≤ e .columns
   pub on-row : (p : Pitch) (c : ℕ) → c < e .width p → e .grid p c .0 < 8 * e .bytes
   pub takes : (p : Pitch) → 1 ≤ e .stride p
+  pub level : T (e .mixed) → (p q : Pitch) → e .width p ≡ e .width q
 
 -- columns stand apart, and no more than five positions
 pub apart-some : (p : Pitch) → 1 ≤ apart-by p
@@ -42,8 +44,8 @@ lp2-on-row Compressed c h = omega arith
 -- each model's edition is proper
 pub described-proper : (w : Model) → Proper (described w)
 unfolding lp2 dg6215
-described-proper Lp2 = record { wide = lp2-wide; on-row = lp2-on-row; takes = λ p. omega arith }
-described-proper Dg6215 = record { wide = λ p. omega arith; on-row = λ p c h. h; takes = apart-some }
+described-proper Lp2 = record { wide = lp2-wide; on-row = lp2-on-row; takes = λ p. omega arith; level = λ t. absurd t }
+described-proper Dg6215 = record { wide = λ p. omega arith; on-row = λ p c h. h; takes = apart-some; level = λ t p q. refl }
 
 -- The bounds that the code of either model counts on.
 pub record Bounded (e : Edition) : Type 0 where
@@ -57,16 +59,17 @@ unfolding lp2 dg6215
 described-bounded Lp2 = record { longest = omega arith; bytes = omega arith; columns = omega arith; stride = λ p. omega arith }
 described-bounded Dg6215 = record { longest = omega arith; bytes = omega arith; columns = omega arith; stride = apart-most }
 
--- The rows of the longest form, twelve a line, and the positions of a line can be counted in a usize.
+-- The rows of the longest form, twelve a line, the bytes of its page and the positions of a line can be counted in a usize.
 pub record Countable (e : Edition) : Type 0 where
   pub rows : e .longest * 12 < 2 ^ 64
+  pub page : e .longest * 12 * e .bytes < 2 ^ 63
   pub columns : (p : Pitch) → e .width p < 2 ^ 64
 
 -- each model's edition is countable
 pub described-countable : (w : Model) → Countable (described w)
-described-countable w =
-    let b : Bounded (described w) = described-bounded w in
-    record { rows = omega (arith, b .longest); columns = λ p. omega (arith, b .columns, described-proper w .wide p) }
+unfolding lp2 dg6215
+described-countable Lp2 = record { rows = omega arith; page = omega arith; columns = λ p. omega (arith, lp2-wide p) }
+described-countable Dg6215 = record { rows = omega arith; page = omega arith; columns = λ p. omega arith }
 
 -- a row has 6,600 grid positions, or 6,800
 pub lp2-row : 8 * lp2 .bytes ≡ 6600

@@ -1,6 +1,7 @@
 -- What differs from one edition of the printer to another. Each rule that rests on one takes the edition: `lp2` is document 01's, `dg6215` the one
 -- that #105 of document 02 adds.
 use Prim.Native.Nat.{ℕ, _*_}
+use mathlib.Core.Bool.{Bool, true, false}
 use Rattle.sheet.specs.declared.Grid.{Grid}
 use Rattle.sheet.specs.declared.Model.{Model}
 use Rattle.sheet.specs.declared.Model.the-variants.{Lp2, Dg6215}
@@ -15,6 +16,8 @@ pub record Edition : Type 0 where
   pub width : Pitch → ℕ  -- W, the positions of a text line
   pub stride : Pitch → ℕ  -- the positions that a column takes
   pub grid : Pitch → ℕ → Grid  -- where a position stands
+  pub mixed : Bool  -- the pitch may change anywhere in a line; else on fresh lines only
+  pub brackets : Bool  -- ESC [ begins a command, and with it the form may change
 
 -- a grid position
 abbrev pub grid-at : ℕ → Grid
@@ -40,6 +43,8 @@ lp2 =
       width = lp2-width;
       stride = λ (p : Pitch). 1;
       grid = λ (p : Pitch) (c : ℕ). grid-at (apart-by p * c);
+      mixed = false;
+      brackets = false;
     }
 
 -- 6215: forms of up to 112 lines, rows of 850 bytes, a line store of 6,800 numbers; a position is a grid position, and a column takes 5 or 3 of them
@@ -52,6 +57,8 @@ dg6215 =
       width = λ (p : Pitch). 6800;
       stride = apart-by;
       grid = λ (p : Pitch) (c : ℕ). grid-at c;
+      mixed = true;
+      brackets = true;
     }
 
 -- the description of a model

@@ -29,10 +29,6 @@ form-rows f = f .lines * rows-per-line (f .spacing)
 unfoldable pub page-bytes : Edition → Form → ℕ
 page-bytes e f = form-rows f * e .bytes
 
--- the bytes of the page that so many lines at a spacing need, 0 where there is no such form
-unfoldable pub page-size : Edition → ℕ → ℕ → ℕ
-page-size e lines spacing = cond (lines-allowed e lines && spacing-allowed spacing) (page-bytes e (record { lines = lines; spacing = spacing })) 0
-
 -- a page with no dot black
 unfoldable pub blank-page : Edition → Form → List ℕ
 blank-page e f = replicate (page-bytes e f) 0
@@ -82,10 +78,30 @@ rows-above r = r .0
 abbrev pub lower : ℕ → Row → Row
 lower n r = record { 0 = r .0 + n }
 
--- the first row of a form
-abbrev pub top : Row
-top = row 0
+-- the margins lie on the form: 1 ≤ N2 ≤ N3 ≤ L
+unfoldable pub margins-allowed : Form → Bool
+margins-allowed f = leb 1 (f .top .0) && leb (f .top .0) (f .bottom .0) && leb (f .bottom .0) (f .lines)
 
--- the nine wires of a line struck at row r stay on the form: r + 9 ≤ L × R
+-- the margins are the form's own ends: 1 and L
+unfoldable pub unmargined : Form → Bool
+unmargined f = eqb (f .top .0) 1 && eqb (f .bottom .0) (f .lines)
+
+-- a form just opened: margins 1 and L
+abbrev pub new-form : ℕ → ℕ → Form
+new-form lines spacing = record { lines = lines; spacing = spacing; top = first-line; bottom = line lines }
+
+-- the bytes of the page that so many lines at a spacing need, 0 where there is no such form
+unfoldable pub page-size : Edition → ℕ → ℕ → ℕ
+page-size e lines spacing = cond (lines-allowed e lines && spacing-allowed spacing) (page-bytes e (new-form lines spacing)) 0
+
+-- the row that a form starts at: the first of line N2
+unfoldable pub top-row : Form → Row
+top-row f = first-row f (f .top)
+
+-- a row is none above the top margin: (N2 − 1) × R ≤ r
+unfoldable pub below-top : Form → Row → Bool
+below-top f r = leb (top-row f .0) (r .0)
+
+-- the nine wires of a line struck at row r stay above the bottom margin's end: r + 9 ≤ N3 × R
 unfoldable pub fits : Form → Row → Bool
-fits f r = leb (r .0 + 9) (form-rows f)
+fits f r = leb (r .0 + 9) (lines-through (f .bottom) * rows-per-line (f .spacing))

@@ -2,7 +2,7 @@
 ghost use Prim.Native.Nat.{_+_, _*_, _≤_};
 ghost use mathlib.Core.Path.{_≡_};
 ghost use Rattle.sheet.specs.Edition.{described};
-ghost use Rattle.sheet.specs.Form.{line, lines-above, lines-through, row, rows-above, top};
+ghost use Rattle.sheet.specs.Form.{line, lines-above, lines-through, row, rows-above};
 ghost use Rattle.sheet.specs.Dots.{page-byte};
 use crate::Grid;
 use crate::Line;
@@ -44,13 +44,6 @@ pub fn rows_above(row: Row) -> usize
     ensures { λ r. ⌜ r ≡ rows-above row ⌝ }
 {
     row.0
-}
-
-// The first row of a form.
-pub fn top() -> Row
-    ensures { λ r. ⌜ r ≡ top ⌝ }
-{
-    Row(0)
 }
 
 // The byte of a page that has the dot at a position of a row.

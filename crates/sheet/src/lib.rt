@@ -9,10 +9,12 @@ pub struct Row(pub usize);
 // A position in a row of dots, counted from 0 at the left.
 pub struct Grid(pub usize);
 
-// A form: how many lines it has, and how many lines stand in an inch.
+// A form: how many lines it has, how many lines stand in an inch, and the lines of its margins, the first and the last to print on.
 pub struct Form {
     pub lines: usize,
     pub spacing: usize,
+    pub top: Line,
+    pub bottom: Line,
 }
 
 // The editions of the printer.

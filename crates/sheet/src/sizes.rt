@@ -2,7 +2,9 @@
 ghost use Prim.Native.Nat.{_≤_};
 ghost use mathlib.Core.Path.{_≡_};
 ghost use Rattle.sheet.specs.Edition.{apart-by, described, longest-page};
-ghost use Rattle.sheet.specs.Form.{lines-allowed, spacing-allowed, rows-per-line, form-rows, page-bytes, page-size, first-row, line-of, lower, fits};
+ghost use Rattle.sheet.specs.Form.{below-top, first-row, fits, form-rows, line-of};
+ghost use Rattle.sheet.specs.Form.{lines-allowed, lower, margins-allowed, new-form, page-bytes, page-size};
+ghost use Rattle.sheet.specs.Form.{rows-per-line, spacing-allowed, top-row, unmargined};
 use crate::Form;
 use crate::Grid;
 use crate::Line;
@@ -107,8 +109,40 @@ pub fn page_size(model: Model, lines: usize, spacing: usize) -> usize
     if !spacing_allowed(spacing) {
         return 0;
     }
-    let form = Form { lines, spacing };
-    page_bytes(model, form)
+    page_bytes(model, new_form(lines, spacing))
+}
+
+// A form just opened: its margins are its own ends.
+pub fn new_form(lines: usize, spacing: usize) -> Form
+    ensures { λ r. ⌜ r ≡ new-form lines spacing ⌝ }
+{
+    Form {
+        lines,
+        spacing,
+        top: Line(1),
+        bottom: Line(lines),
+    }
+}
+
+// Whether the margins lie on the form.
+pub fn margins_allowed(form: Form) -> bool
+    ensures { λ r. ⌜ r ≡ margins-allowed form ⌝ }
+{
+    let top = form.top;
+    let bottom = form.bottom;
+    if top.0 < 1 {
+        return false;
+    }
+    top.0 <= bottom.0 && bottom.0 <= form.lines
+}
+
+// Whether the margins are the form's own ends.
+pub fn unmargined(form: Form) -> bool
+    ensures { λ r. ⌜ r ≡ unmargined form ⌝ }
+{
+    let top = form.top;
+    let bottom = form.bottom;
+    top.0 == 1 && bottom.0 == form.lines
 }
 
 // The first row of a line.
@@ -136,13 +170,51 @@ pub fn lower(row: Row, rows: usize) -> Row
     Row(row.0 + rows)
 }
 
-// Whether the nine wires of a line struck at a row stay on the form.
+// The row that a form starts at.
+pub fn top_row(form: Form) -> Row
+    requires { ⌜ (1 ≤ form .top .0) × (form .top .0 ≤ 128) ⌝ }
+    ensures { λ r. ⌜ r ≡ top-row form ⌝ }
+{
+    let top = form.top;
+    first_row(form, top)
+}
+
+// Whether a row is none above the top margin.
+pub fn below_top(form: Form, row: Row) -> bool
+    requires { ⌜ (1 ≤ form .top .0) × (form .top .0 ≤ 128) ⌝ }
+    ensures { λ r. ⌜ r ≡ below-top form row ⌝ }
+{
+    top_row(form).0 <= row.0
+}
+
+// Whether the nine wires of a line struck at a row stay above the bottom margin's end.
 pub fn fits(form: Form, row: Row) -> bool
-    requires { ⌜ form .lines ≤ 112 ⌝ }
+    requires { ⌜ form .bottom .0 ≤ 112 ⌝ }
     ensures { λ r. ⌜ r ≡ fits form row ⌝ }
 {
-    let rows = form_rows(form);
+    let bottom = form.bottom;
+    let rows = bottom.0 * rows_per_line(form.spacing);
     9 <= rows && row.0 <= rows - 9
+}
+
+// Whether the pitch may change anywhere in a line.
+pub fn mixed(model: Model) -> bool
+    ensures { λ r. ⌜ r ≡ described model .mixed ⌝ }
+{
+    match model {
+        Model::Lp2 => false,
+        Model::Dg6215 => true,
+    }
+}
+
+// Whether ESC [ begins a command.
+pub fn brackets(model: Model) -> bool
+    ensures { λ r. ⌜ r ≡ described model .brackets ⌝ }
+{
+    match model {
+        Model::Lp2 => false,
+        Model::Dg6215 => true,
+    }
 }
 
 // W, the positions of a text line.

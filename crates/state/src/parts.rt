@@ -1,11 +1,14 @@
 // One part of the state changed, and what came of a byte.
 ghost use mathlib.Core.Path.{_≡_};
 ghost use Rattle.printer.specs.declared.Event.the-variants.{Quiet, Finished, Noted};
+ghost use Prim.Native.Nat.{_≤_};
+ghost use Rattle.printer.specs.Brackets.{reformed};
 ghost use Rattle.printer.specs.Escapes.{after-reset, begin-plot, clear-tabs, set-downloaded, set-elongated, set-pitch, set-underscore};
 ghost use Rattle.printer.specs.Given.{bare, stepped};
 ghost use Rattle.printer.specs.Machine.{edition-of, fresh-head, with-head, with-pending};
 ghost use Rattle.printer.specs.Plotting.{leave-plot};
 ghost use Rattle.printer.specs.Printing.{moved-to};
+use crate::tabs::tabs_through;
 use printer::Event;
 use printer::Fault;
 use printer::Head;
@@ -14,8 +17,10 @@ use printer::Printer;
 use printer::Stepped;
 use printer::Style;
 use printer::TabSet;
+use sheet::Form;
 use sheet::Pitch;
 use sheet::Row;
+use sheet::sizes::top_row;
 
 // Nothing is to be told.
 pub fn quiet(p: Printer) -> Stepped
@@ -157,6 +162,18 @@ pub fn clear_tabs(p: Printer) -> Printer
     let mut q = p;
     q.tabs = none;
     q
+}
+
+// Another form: the head on a fresh line at its first row, and no tab past its length.
+pub fn reformed(p: Printer, form: Form) -> Printer
+    requires { ⌜ (form .lines ≤ 112) × (1 ≤ form .top .0) × (form .top .0 ≤ 128) ⌝ }
+    ensures { λ r. ⌜ r ≡ reformed form (bare p) .printer ⌝ }
+{
+    let tabs = tabs_through(p.tabs, form.lines);
+    let mut q = p;
+    q.form = form;
+    q.tabs = tabs;
+    fresh(q, top_row(form))
 }
 
 // The state after a reset: a fresh line at the same row, normal pitch, no feature and no tab.

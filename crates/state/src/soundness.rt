@@ -12,9 +12,13 @@ use printer::Pending;
 use printer::Printer;
 use sheet::Form;
 use sheet::Model;
+use sheet::sizes::below_top;
+use sheet::sizes::brackets;
 use sheet::sizes::fits;
 use sheet::sizes::lines_allowed;
+use sheet::sizes::margins_allowed;
 use sheet::sizes::spacing_allowed;
+use sheet::sizes::unmargined;
 use sheet::sizes::width;
 
 // Where the pending command began.
@@ -33,13 +37,24 @@ fn begun(pending: Pending) -> Begun
         Pending::AddressHigh(place, _) => Begun::At(place),
         Pending::AddressLow(place, _, _) => Begun::At(place),
         Pending::Payload(place, _) => Begun::At(place),
+        Pending::Bracket(place, _) => Begun::At(place),
     }
 }
 
+// L and the spacing are in range and the margins lie on the form; where the form can't change they are its own ends.
 fn form_sound(model: Model, form: Form) -> bool
     ensures { λ r. ⌜ r ≡ form-sound (described model) form ⌝ }
 {
-    lines_allowed(model, form.lines) && spacing_allowed(form.spacing)
+    if !lines_allowed(model, form.lines) {
+        return false;
+    }
+    if !spacing_allowed(form.spacing) {
+        return false;
+    }
+    if !margins_allowed(form) {
+        return false;
+    }
+    brackets(model) || unmargined(form)
 }
 
 // Tabs lie on lines of the form.
@@ -57,12 +72,13 @@ fn tabs_sound(p: Printer) -> bool
     true
 }
 
-// No more payload is taken than counted.
-fn load_sound(pending: Pending) -> bool
-    ensures { λ r. ⌜ r ≡ load-sound pending ⌝ }
+// No more payload is taken than counted, and ESC [ has begun a command only where it can.
+fn load_sound(model: Model, pending: Pending) -> bool
+    ensures { λ r. ⌜ r ≡ load-sound (described model) pending ⌝ }
 {
     match pending {
         Pending::Payload(_, load) => load.taken <= load.count,
+        Pending::Bracket(_, _) => brackets(model),
         Pending::Nothing => true,
         Pending::Escape(_) => true,
         Pending::Tabs(_) => true,
@@ -109,6 +125,7 @@ fn at_most_escape(pending: Pending) -> bool
         Pending::AddressHigh(_, _) => false,
         Pending::AddressLow(_, _, _) => false,
         Pending::Payload(_, _) => false,
+        Pending::Bracket(_, _) => false,
     }
 }
 
@@ -132,6 +149,9 @@ pub fn sound(p: Printer) -> bool
     if !form_sound(model, form) {
         return false;
     }
+    if !below_top(form, head.row) {
+        return false;
+    }
     if !fits(form, head.row) {
         return false;
     }
@@ -141,7 +161,7 @@ pub fn sound(p: Printer) -> bool
     if !tabs_sound(p) {
         return false;
     }
-    if !load_sound(pending) {
+    if !load_sound(model, pending) {
         return false;
     }
     if !place_sound(p.job, begun(pending)) {

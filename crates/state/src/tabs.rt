@@ -1,9 +1,9 @@
 // The vertical tabs, each a bit of one of two words.
-ghost use Prim.Native.Nat.{_<_};
+ghost use Prim.Native.Nat.{_≤_, _<_};
 ghost use mathlib.Core.Bool.{false};
 ghost use mathlib.Core.Path.{_≡_};
 ghost use lib.ListN.{getD};
-ghost use Rattle.printer.specs.Tabs.{line-tabs, put-bit, with-tab};
+ghost use Rattle.printer.specs.Tabs.{line-tabs, put-bit, tabs-through, with-tab};
 use printer::TabSet;
 
 // Whether the line that has `above` lines above it has a tab.
@@ -46,4 +46,22 @@ pub fn with_tab(tabs: TabSet, above: usize, on: bool) -> TabSet
         };
     }
     tabs
+}
+
+// The tabs of the first n lines alone.
+pub fn tabs_through(tabs: TabSet, n: usize) -> TabSet
+    requires { ⌜ n ≤ 112 ⌝ }
+    ensures { λ r. ⌜ r ≡ tabs-through n tabs ⌝ }
+{
+    let one: u64 = 1;
+    if n < 64 {
+        return TabSet {
+            low: tabs.low % (one << n),
+            high: 0,
+        };
+    }
+    TabSet {
+        low: tabs.low,
+        high: tabs.high % (one << (n - 64)),
+    }
 }

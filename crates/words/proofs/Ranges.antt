@@ -1,14 +1,14 @@
 -- The ranges of a state's words.
 use Prim.Native.Nat.{ℕ, suc, _+_, _-_, _≤_, _<_}
-use mathlib.Core.Bool.{Bool, true, false, _&&_, and-eq-true-iff}
+use mathlib.Core.Bool.{Bool, true, false, _&&_, cond, and-eq-true-iff}
 use mathlib.Core.List.{List}
-use mathlib.Core.Path.{_≡_, ap, sym, _∙_}
+use mathlib.Core.Path.{_≡_, ap, subst, sym, _∙_}
 use native.Mathlib.Omega.{arith}
 use borrow.Author.Tests.{eqb-true, le-leb, leb-true, lt-leb}
 use lib.Dec.{eqb, leb}
 use lib.ListN.{drop, getD, length, take}
 use lib.Seq.{drop-cons}
-use Rattle.words.specs.Words.{at-most, in-range, is-state, part, state-size}
+use Rattle.words.specs.Words.{at-most, in-range, is-state, number-limit, part, state-size}
 
 -- one word more of a part
 part-turn : (m k n : ℕ) (ws : List ℕ) → k < length ws
@@ -50,45 +50,61 @@ first m k n ws h q =
     let both = and-eq-true-iff (leb (getD ws k 0) m) (at-most m (take n (drop (suc k) ws))) .0 (sym (part-turn m k n ws h) ∙ q) in
     (leb-true _ _ (both .0), both .1)
 
-each : (a b c d e f : Bool) → (a && b && c && d && e && f) ≡ true
-    → (a ≡ true) × (b ≡ true) × (c ≡ true) × (d ≡ true) × (e ≡ true) × (f ≡ true)
-each a b c d e f q =
-    let u = and-eq-true-iff (a && b && c && d && e) f .0 q in
+each : (a b c d e f g : Bool) → (a && b && c && d && e && f && g) ≡ true
+    → (a ≡ true) × (b ≡ true) × (c ≡ true) × (d ≡ true) × (e ≡ true) × (f ≡ true) × (g ≡ true)
+each a b c d e f g q =
+    let t = and-eq-true-iff (a && b && c && d && e && f) g .0 q in
+    let u = and-eq-true-iff (a && b && c && d && e) f .0 (t .0) in
     let v = and-eq-true-iff (a && b && c && d) e .0 (u .0) in
     let w = and-eq-true-iff (a && b && c) d .0 (v .0) in
     let x = and-eq-true-iff (a && b) c .0 (w .0) in
     let y = and-eq-true-iff a b .0 (x .0) in
-    (y .0, y .1, x .1, w .1, v .1, u .1)
+    (y .0, y .1, x .1, w .1, v .1, u .1, t .1)
 
 -- what a state's words are known to be
 pub record InRange (ws : List ℕ) : Type 0 where
-  pub job : getD ws 2 0 ≤ 4294967295
-  pub place : getD ws 15 0 ≤ 4294967295
-  pub byte : getD ws 16 0 ≤ 255
-  pub count : getD ws 17 0 ≤ 65535
-  pub address : getD ws 18 0 ≤ 65535
-  pub taken : getD ws 19 0 ≤ 65535
+  pub job : getD ws 5 0 ≤ 4294967295
+  pub place : getD ws 18 0 ≤ 4294967295
+  pub byte : getD ws 19 0 ≤ 255
+  pub count : getD ws 20 0 ≤ number-limit (getD ws 17 0)
+  pub address : getD ws 21 0 ≤ number-limit (getD ws 17 0)
+  pub taken : getD ws 22 0 ≤ number-limit (getD ws 17 0)
 
--- the two halves of a state: it has its twenty words, and they are in range
+-- the two halves of a state: it has as many words as a state has, and they are in range
 pub state-halves : (ws : List ℕ) → is-state ws ≡ true → (length ws ≡ state-size) × (in-range ws ≡ true)
 unfolding is-state
 state-halves ws q =
     let h = and-eq-true-iff (eqb (length ws) state-size) (in-range ws) .0 q in
     (eqb-true _ _ (h .0), h .1)
 
+-- both bounds are 65,536 at most
+either : (b : Bool) → cond b 65536 65535 ≤ 65536
+either true = omega arith
+either false = omega arith
+
+-- the numbers of ESC [ are the widest
+pub of-any : {n : ℕ} (kind : ℕ) → n ≤ number-limit kind → n ≤ 65536
+unfolding number-limit
+of-any kind h = omega (arith, h, either (eqb kind 11))
+
+-- a number in the range of a kind that is known
+pub of-kind : {n kind : ℕ} (k : ℕ) → kind ≡ k → n ≤ number-limit kind → n ≤ number-limit k
+of-kind {n} k e h = subst (λ (j : ℕ). n ≤ number-limit j) e h
+
 pub ranges : (ws : List ℕ) → length ws ≡ state-size → in-range ws ≡ true → InRange ws
 unfolding in-range
 ranges ws l r =
     let small : ℕ → ℕ → ℕ → Bool = λ m k n. at-most m (part k n ws) in
+    let most : ℕ = number-limit (getD ws 17 0) in
     let held =
-    each (small 4294967295 2 1) (small 1 5 7) (small 10 14 1) (small 4294967295 15 1) (small 255 16 1) (small 65535 17 3) r in
-    let x = first 65535 17 2 ws (omega arith) (held .5) in
-    let y = first 65535 18 1 ws (omega arith) (x .1) in
-    let z = first 65535 19 0 ws (omega arith) (y .1) in
+    each (small 1 0 1) (small 4294967295 5 1) (small 1 8 7) (small 11 17 1) (small 4294967295 18 1) (small 255 19 1) (small most 20 3) r in
+    let x = first most 20 2 ws (omega arith) (held .6) in
+    let y = first most 21 1 ws (omega arith) (x .1) in
+    let z = first most 22 0 ws (omega arith) (y .1) in
     record {
-      job = first 4294967295 2 0 ws (omega arith) (held .0) .0;
-      place = first 4294967295 15 0 ws (omega arith) (held .3) .0;
-      byte = first 255 16 0 ws (omega arith) (held .4) .0;
+      job = first 4294967295 5 0 ws (omega arith) (held .1) .0;
+      place = first 4294967295 18 0 ws (omega arith) (held .4) .0;
+      byte = first 255 19 0 ws (omega arith) (held .5) .0;
       count = x .0;
       address = y .0;
       taken = z .0;

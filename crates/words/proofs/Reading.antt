@@ -4,38 +4,47 @@ use mathlib.Core.List.{List}
 use mathlib.Core.Path.{_≡_}
 use lib.Dec.{eqb}
 use lib.ListN.{getD}
-use Rattle.sheet.specs.declared.Model.the-variants.{Lp2}
+use Rattle.sheet.specs.declared.Form.{Form}
+use Rattle.sheet.specs.declared.Line.{Line}
+use Rattle.sheet.specs.declared.Model.{Model}
 use Rattle.sheet.specs.declared.Pitch.{Pitch}
 use Rattle.sheet.specs.declared.Row.{Row}
+use Rattle.sheet.specs.Form.{line, row}
+use Rattle.printer.specs.declared.Head.{Head}
 use Rattle.printer.specs.declared.Pending.{Pending}
-use Rattle.words.specs.Words.{pending-of, pitch-of, state-of}
+use Rattle.printer.specs.declared.Style.{Style}
+use Rattle.words.specs.Words.{form-of, head-of, model-of, pending-of, pitch-of, state-of, style-of}
 
+-- what is made of what was read of some words, the others as they stand
 module _ (ws : List ℕ) where
   abbrev w : ℕ → ℕ
   w k = getD ws k 0
 
-  -- the state made of what was read of some words, the others as they stand
-  module _ {lines spacing job column place byte count address taken : ℕ} {row : Row} {pitch : Pitch} {pending : Pending} where
-    pub read-state : lines ≡ w 0
-        → spacing ≡ w 1
-        → job ≡ w 2
-        → row ≡ record { 0 = w 3 }
-        → column ≡ w 4
-        → pitch ≡ pitch-of (w 8)
-        → place ≡ w 15
-        → byte ≡ w 16
-        → count ≡ w 17
-        → address ≡ w 18
-        → taken ≡ w 19
-        → pending ≡ pending-of (w 14) place byte count address taken
-        → record {
-          model = Lp2;
-          form = record { lines = lines; spacing = spacing };
-          job = job;
-          pending = pending;
-          head = record { row = row; column = column; fresh = eqb (w 5) 1; plotted = eqb (w 6) 1; plotting = eqb (w 7) 1 };
-          style = record { pitch = pitch; elongated = eqb (w 9) 1; underscore = eqb (w 10) 1; downloaded = eqb (w 11) 1 };
-          tabs = record { low = w 12; high = w 13 };
-        } ≡ state-of ws
+  pub read-form : {lines spacing : ℕ} {top bottom : Line} → lines ≡ w 1 → spacing ≡ w 2 → top ≡ line (w 3) → bottom ≡ line (w 4)
+      → record { lines = lines; spacing = spacing; top = top; bottom = bottom } ≡ form-of ws
+  unfolding form-of
+  read-form a b c d = simp (a, b, c, d)
+
+  pub read-head : {at : Row} {column : ℕ} → at ≡ row (w 6) → column ≡ w 7
+      → record { row = at; column = column; fresh = eqb (w 8) 1; plotted = eqb (w 9) 1; plotting = eqb (w 10) 1 } ≡ head-of ws
+  unfolding head-of
+  read-head a b = simp (a, b)
+
+  pub read-style : {pitch : Pitch} → pitch ≡ pitch-of (w 11)
+      → record { pitch = pitch; elongated = eqb (w 12) 1; underscore = eqb (w 13) 1; downloaded = eqb (w 14) 1 } ≡ style-of ws
+  unfolding style-of
+  read-style a = simp a
+
+  module _ {model : Model} {form : Form} {job place byte : ℕ} {pending : Pending} {head : Head} {style : Style} where
+    pub read-state : model ≡ model-of (w 0)
+        → form ≡ form-of ws
+        → job ≡ w 5
+        → head ≡ head-of ws
+        → style ≡ style-of ws
+        → place ≡ w 18
+        → byte ≡ w 19
+        → pending ≡ pending-of (w 17) place byte (w 20) (w 21) (w 22)
+        → record { model = model; form = form; job = job; pending = pending; head = head; style = style; tabs = record { low = w 15; high = w 16 } }
+        ≡ state-of ws
     unfolding state-of
-    read-state a b c d e f g h i j k l = simp (a, b, c, d, e, f, l, g, h, i, j, k)
+    read-state a b c d e f g h = simp (a, b, c, d, e, h, f, g)

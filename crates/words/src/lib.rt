@@ -5,28 +5,42 @@ ghost use mathlib.Core.List.{[], _∷_, _++_};
 ghost use Prim.Native.Nat.{_+_, _≤_};
 ghost use lib.ListN.{length, take};
 ghost use Rattle.printer.specs.Machine.{limit};
-ghost use Rattle.words.specs.Words.{Ranged, at-most, in-range, is-state, part, pending-of, pending-words, pitch-of, pitch-word, state-of};
-ghost use Rattle.words.specs.Words.{state-size, state-words, truth};
+ghost use Rattle.printer.specs.declared.Pending.the-variants.{Bracket};
+ghost use Rattle.words.specs.Words.{Ranged, at-most, form-of, head-of, in-range, is-state, model-of, model-word, number-limit, part, pending-of};
+ghost use Rattle.words.specs.Words.{pending-words, pitch-of, pitch-word, setting-of, setting-word, state-of, state-size, state-words, style-of, truth};
 use printer::Head;
 use printer::JOB_LIMIT;
 use printer::Load;
 use printer::Pending;
 use printer::Printer;
+use printer::Setting;
+use printer::Settings;
 use printer::Style;
 use printer::TabSet;
 use sheet::Form;
 use sheet::Model;
 use sheet::Pitch;
+use sheet::counts::line;
+use sheet::counts::lines_through;
 use sheet::counts::row;
 use sheet::counts::rows_above;
 
 // How many words a state has.
-pub const STATE_WORDS: usize = 20;
+pub const STATE_WORDS: usize = 23;
 
 fn truth(on: bool) -> u64
     ensures { λ r. ⌜ r ≡ truth on ⌝ }
 {
     if on { 1 } else { 0 }
+}
+
+fn model_word(model: Model) -> u64
+    ensures { λ r. ⌜ r ≡ model-word model ⌝ }
+{
+    match model {
+        Model::Lp2 => 0,
+        Model::Dg6215 => 1,
+    }
 }
 
 fn pitch_word(pitch: Pitch) -> u64
@@ -38,23 +52,47 @@ fn pitch_word(pitch: Pitch) -> u64
     }
 }
 
-// Writes the six words of what is pending.
-fn six(state: &mut [u64], kind: u64, place: u32, byte: u8, count: u16, address: u16, taken: u16)
-    requires { ⌜ length (now state) ≡ state-size ⌝ }
-    ensures { λ _. ⌜ now (state .exit) ≡ take 14 (now (state .entry)) ++ (kind ∷ place ∷ byte ∷ count ∷ address ∷ taken ∷ []) ⌝ }
-    ensures { λ _. ⌜ (place ≤ limit) × (byte ≤ 255) × (count ≤ 65535) × (address ≤ 65535) × (taken ≤ 65535) ⌝ }
+fn setting_word(setting: Setting) -> u64
+    ensures { λ r. ⌜ (r ≡ setting-word setting) × (setting-word setting ≤ 65536) ⌝ }
 {
-    state[14] = kind;
-    state[15] = place as u64;
-    state[16] = byte as u64;
-    state[17] = count as u64;
-    state[18] = address as u64;
-    state[19] = taken as u64;
+    match setting {
+        Setting::Omitted => 0,
+        Setting::Given(n) => n as u64 + 1,
+    }
+}
+
+// Writes the six words of what is pending.
+fn six(state: &mut [u64], kind: u64, place: u32, byte: u8, count: u64, address: u64, taken: u64)
+    requires { ⌜ length (now state) ≡ state-size ⌝ }
+    ensures { λ _. ⌜ now (state .exit) ≡ take 17 (now (state .entry)) ++ (kind ∷ place ∷ byte ∷ count ∷ address ∷ taken ∷ []) ⌝ }
+    ensures { λ _. ⌜ (place ≤ limit) × (byte ≤ 255) ⌝ }
+{
+    state[17] = kind;
+    state[18] = place as u64;
+    state[19] = byte as u64;
+    state[20] = count;
+    state[21] = address;
+    state[22] = taken;
+}
+
+// Writes a command that ESC [ began.
+fn put_bracket(state: &mut [u64], place: u32, settings: Settings)
+    requires { ⌜ length (now state) ≡ state-size ⌝ }
+    ensures { λ _. ⌜ now (state .exit) ≡ take 17 (now (state .entry)) ++ pending-words (Bracket place settings) ⌝ }
+    ensures { λ _. ⌜ Ranged (Bracket place settings) ⌝ }
+{
+    let first = settings.first;
+    let second = settings.second;
+    let third = settings.third;
+    let one = setting_word(first);
+    let two = setting_word(second);
+    let three = setting_word(third);
+    six(state, 11, place, settings.semicolons, one, two, three);
 }
 
 fn put_pending(state: &mut [u64], pending: Pending)
     requires { ⌜ length (now state) ≡ state-size ⌝ }
-    ensures { λ _. ⌜ now (state .exit) ≡ take 14 (now (state .entry)) ++ pending-words pending ⌝ }
+    ensures { λ _. ⌜ now (state .exit) ≡ take 17 (now (state .entry)) ++ pending-words pending ⌝ }
     ensures { λ _. ⌜ Ranged pending ⌝ }
 {
     match pending {
@@ -66,19 +104,20 @@ fn put_pending(state: &mut [u64], pending: Pending)
         Pending::SelectLow(place, high) => six(state, 5, place, high, 0, 0, 0),
         Pending::CountHigh(place) => six(state, 6, place, 0, 0, 0, 0),
         Pending::CountLow(place, high) => six(state, 7, place, high, 0, 0, 0),
-        Pending::AddressHigh(place, count) => six(state, 8, place, 0, count, 0, 0),
-        Pending::AddressLow(place, count, high) => six(state, 9, place, high, count, 0, 0),
+        Pending::AddressHigh(place, count) => six(state, 8, place, 0, count as u64, 0, 0),
+        Pending::AddressLow(place, count, high) => six(state, 9, place, high, count as u64, 0, 0),
         Pending::Payload(place, load) => {
             six(
                 state,
                 10,
                 place,
                 load.sum,
-                load.count,
-                load.address,
-                load.taken,
+                load.count as u64,
+                load.address as u64,
+                load.taken as u64,
             )
         }
+        Pending::Bracket(place, settings) => put_bracket(state, place, settings),
     }
 }
 
@@ -88,26 +127,32 @@ pub fn put(state: &mut [u64], p: Printer)
     ensures { λ _. ⌜ now (state .exit) ≡ state-words p ⌝ }
     ensures { λ _. ⌜ is-state (now (state .exit)) ≡ true ⌝ }
 {
+    let model = p.model;
     let form = p.form;
+    let top = form.top;
+    let bottom = form.bottom;
     let head = p.head;
     let row = head.row;
     let style = p.style;
     let pitch = style.pitch;
     let pending = p.pending;
-    state[0] = form.lines as u64;
-    state[1] = form.spacing as u64;
-    state[2] = p.job as u64;
-    state[3] = rows_above(row) as u64;
-    state[4] = head.column as u64;
-    state[5] = truth(head.fresh);
-    state[6] = truth(head.plotted);
-    state[7] = truth(head.plotting);
-    state[8] = pitch_word(pitch);
-    state[9] = truth(style.elongated);
-    state[10] = truth(style.underscore);
-    state[11] = truth(style.downloaded);
-    state[12] = p.tabs.low;
-    state[13] = p.tabs.high;
+    state[0] = model_word(model);
+    state[1] = form.lines as u64;
+    state[2] = form.spacing as u64;
+    state[3] = lines_through(top) as u64;
+    state[4] = lines_through(bottom) as u64;
+    state[5] = p.job as u64;
+    state[6] = rows_above(row) as u64;
+    state[7] = head.column as u64;
+    state[8] = truth(head.fresh);
+    state[9] = truth(head.plotted);
+    state[10] = truth(head.plotting);
+    state[11] = pitch_word(pitch);
+    state[12] = truth(style.elongated);
+    state[13] = truth(style.underscore);
+    state[14] = truth(style.downloaded);
+    state[15] = p.tabs.low;
+    state[16] = p.tabs.high;
     put_pending(state, pending);
 }
 
@@ -126,27 +171,37 @@ fn at_most(state: &[u64], k: usize, n: usize, m: u64) -> bool
     true
 }
 
+// The largest of a pending command's three numbers.
+fn number_limit(kind: u64) -> u64
+    ensures { λ r. ⌜ r ≡ number-limit kind ⌝ }
+{
+    if kind == 11 { 65536 } else { 65535 }
+}
+
 // Whether each word of a state is in the range of its number.
 fn in_range(state: &[u64]) -> bool
     requires { ⌜ length (now state) ≡ state-size ⌝ }
     ensures { λ r. ⌜ r ≡ in-range (now (state .entry)) ⌝ }
 {
-    if !at_most(state, 2, 1, JOB_LIMIT as u64) {
+    if !at_most(state, 0, 1, 1) {
         return false;
     }
-    if !at_most(state, 5, 7, 1) {
+    if !at_most(state, 5, 1, JOB_LIMIT as u64) {
         return false;
     }
-    if !at_most(state, 14, 1, 10) {
+    if !at_most(state, 8, 7, 1) {
         return false;
     }
-    if !at_most(state, 15, 1, JOB_LIMIT as u64) {
+    if !at_most(state, 17, 1, 11) {
         return false;
     }
-    if !at_most(state, 16, 1, 255) {
+    if !at_most(state, 18, 1, JOB_LIMIT as u64) {
         return false;
     }
-    at_most(state, 17, 3, 65535)
+    if !at_most(state, 19, 1, 255) {
+        return false;
+    }
+    at_most(state, 20, 3, number_limit(state[17]))
 }
 
 // Whether words are a state.
@@ -188,6 +243,12 @@ fn byte(word: u64) -> u8
     word as u8
 }
 
+fn model_of(word: u64) -> Model
+    ensures { λ r. ⌜ r ≡ model-of word ⌝ }
+{
+    if word == 1 { Model::Dg6215 } else { Model::Lp2 }
+}
+
 fn pitch_of(word: u64) -> Pitch
     ensures { λ r. ⌜ r ≡ pitch-of word ⌝ }
 {
@@ -198,7 +259,45 @@ fn pitch_of(word: u64) -> Pitch
     }
 }
 
-fn pending_of(kind: u64, place: u32, byte: u8, count: u16, address: u16, taken: u16) -> Pending
+fn setting_of(word: u64) -> Setting
+    requires { ⌜ word ≤ 65536 ⌝ }
+    ensures { λ r. ⌜ r ≡ setting-of word ⌝ }
+{
+    if word == 0 {
+        Setting::Omitted
+    } else {
+        Setting::Given(half(word - 1))
+    }
+}
+
+// The download whose payload is coming, from its words.
+fn load_of(sum: u8, count: u64, address: u64, taken: u64) -> Load
+    requires { ⌜ (count ≤ 65535) × (address ≤ 65535) × (taken ≤ 65535) ⌝ }
+    ensures { λ r. ⌜ r ≡ record { count = count; address = address; taken = taken; sum = sum } ⌝ }
+{
+    Load {
+        count: half(count),
+        address: half(address),
+        taken: half(taken),
+        sum,
+    }
+}
+
+// The numbers of a command that ESC [ began, from its words.
+fn settings_of(semicolons: u8, first: u64, second: u64, third: u64) -> Settings
+    requires { ⌜ (first ≤ 65536) × (second ≤ 65536) × (third ≤ 65536) ⌝ }
+    ensures { λ r. ⌜ r ≡ record { first = setting-of first; second = setting-of second; third = setting-of third; semicolons = semicolons } ⌝ }
+{
+    Settings {
+        first: setting_of(first),
+        second: setting_of(second),
+        third: setting_of(third),
+        semicolons,
+    }
+}
+
+fn pending_of(kind: u64, place: u32, byte: u8, count: u64, address: u64, taken: u64) -> Pending
+    requires { ⌜ (count ≤ number-limit kind) × (address ≤ number-limit kind) × (taken ≤ number-limit kind) ⌝ }
     ensures { λ r. ⌜ r ≡ pending-of kind place byte count address taken ⌝ }
 {
     match kind {
@@ -210,17 +309,47 @@ fn pending_of(kind: u64, place: u32, byte: u8, count: u16, address: u16, taken: 
         5 => Pending::SelectLow(place, byte),
         6 => Pending::CountHigh(place),
         7 => Pending::CountLow(place, byte),
-        8 => Pending::AddressHigh(place, count),
-        9 => Pending::AddressLow(place, count, byte),
-        _ => {
-            let load = Load {
-                count,
-                address,
-                taken,
-                sum: byte,
-            };
-            Pending::Payload(place, load)
-        }
+        8 => Pending::AddressHigh(place, half(count)),
+        9 => Pending::AddressLow(place, half(count), byte),
+        10 => Pending::Payload(place, load_of(byte, count, address, taken)),
+        _ => Pending::Bracket(place, settings_of(byte, count, address, taken)),
+    }
+}
+
+fn form_of(state: &[u64]) -> Form
+    requires { ⌜ length (now state) ≡ state-size ⌝ }
+    ensures { λ r. ⌜ r ≡ form-of (now (state .entry)) ⌝ }
+{
+    Form {
+        lines: size(state[1]),
+        spacing: size(state[2]),
+        top: line(size(state[3])),
+        bottom: line(size(state[4])),
+    }
+}
+
+fn head_of(state: &[u64]) -> Head
+    requires { ⌜ length (now state) ≡ state-size ⌝ }
+    ensures { λ r. ⌜ r ≡ head-of (now (state .entry)) ⌝ }
+{
+    Head {
+        row: row(size(state[6])),
+        column: size(state[7]),
+        fresh: state[8] == 1,
+        plotted: state[9] == 1,
+        plotting: state[10] == 1,
+    }
+}
+
+fn style_of(state: &[u64]) -> Style
+    requires { ⌜ length (now state) ≡ state-size ⌝ }
+    ensures { λ r. ⌜ r ≡ style-of (now (state .entry)) ⌝ }
+{
+    Style {
+        pitch: pitch_of(state[11]),
+        elongated: state[12] == 1,
+        underscore: state[13] == 1,
+        downloaded: state[14] == 1,
     }
 }
 
@@ -229,39 +358,28 @@ pub fn state_of(state: &[u64]) -> Printer
     requires { ⌜ (length (now state) ≡ state-size) × (in-range (now state) ≡ true) ⌝ }
     ensures { λ r. ⌜ r ≡ state-of (now (state .entry)) ⌝ }
 {
-    let form = Form {
-        lines: size(state[0]),
-        spacing: size(state[1]),
-    };
-    let head = Head {
-        row: row(size(state[3])),
-        column: size(state[4]),
-        fresh: state[5] == 1,
-        plotted: state[6] == 1,
-        plotting: state[7] == 1,
-    };
-    let style = Style {
-        pitch: pitch_of(state[8]),
-        elongated: state[9] == 1,
-        underscore: state[10] == 1,
-        downloaded: state[11] == 1,
-    };
+    let model = model_of(state[0]);
+    let form = form_of(state);
+    let job = place(state[5]);
+    let head = head_of(state);
+    let style = style_of(state);
     let tabs = TabSet {
-        low: state[12],
-        high: state[13],
+        low: state[15],
+        high: state[16],
     };
+    let begun = place(state[18]);
     let pending = pending_of(
-        state[14],
-        place(state[15]),
-        byte(state[16]),
-        half(state[17]),
-        half(state[18]),
-        half(state[19]),
+        state[17],
+        begun,
+        byte(state[19]),
+        state[20],
+        state[21],
+        state[22],
     );
     Printer {
-        model: Model::Lp2,
+        model,
         form,
-        job: place(state[2]),
+        job,
         pending,
         head,
         style,

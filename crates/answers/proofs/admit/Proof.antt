@@ -8,12 +8,13 @@ use borrow.Author.Tests.{not-false, not-true}
 use Rattle.sheet.proofs.Editions.{described-bounded}
 use Rattle.sheet.proofs.Units.{lines-most}
 use Rattle.sheet.specs.Edition.{described}
-use Rattle.sheet.specs.Form.{lines-allowed, spacing-allowed}
+use Rattle.sheet.specs.Form.{lines-allowed, new-form, spacing-allowed}
 use Rattle.printer.specs.declared.Printer.{Printer}
 use Rattle.printer.specs.Given.{machine}
 use Rattle.printer.specs.Machine.{Machine}
-use Rattle.protocol.specs.Calls.{Opening}
+use Rattle.protocol.specs.Calls.{Opening, fit}
 use Rattle.protocol.proofs.Ways.{open-done, open-lines, open-misfit, open-spacing}
+use Rattle.answers.proofs.Lengths.{same-form}
 use Rattle.answers.proofs.admit.Statement.{statement}
 use Rattle.answers.proofs.admit.Tie as tie
 use Places.*
@@ -44,22 +45,30 @@ returns-2 c p =
 fit-requires : tie.Need-fit-requires
 fit-requires c κs =
     let a = start-at-fit-requires c .args in
-    omega (arith, lines-most (described (a .model)) (a .lines) (lines-right (c .before .before)), described-bounded (a .model) .longest)
+    let most = lines-most (described (a .model)) (a .lines) (lines-right (else1-at-fit-requires c)) in
+    rw (c .new-form .ensures) (omega (arith, most, described-bounded (a .model) .longest))
+
+-- what fits is tested for the form just opened
+fitting : (c : tie.After-fit) (p : Printer) → let s = start-at-fit c in let a = s .args in
+    c .fit .result ≡ fit (described (a .model)) (new-form (a .lines) (a .spacing)) (a .font .now) (lent s p)
+fitting c p =
+    let s = start-at-fit c in
+    same-form (described (s .args .model)) (s .args .font .now) (lent s p) (c .fit .ensures p) (new-form-at-fit c .new-form .ensures)
 
 returns-3 : tie.Need-returns-3
 returns-3 c p =
     ap (λ (o : Opening). o .answer)
     (open-misfit _ _ _ _ (lent (start-at-returns-3 c) p) (lines-right (else1-at-returns-3 c)) (spacing-right (else2-at-returns-3 c))
-    (fit-at-returns-3 c .fit .ensures p) (c .before .fitting .given .1))
+    (fitting (fit-at-returns-3 c) p) (c .before .fitting .given .1))
 
 returns-4 : tie.Need-returns-4
 returns-4 c p =
     ap (λ (o : Opening). o .answer)
     (open-done _ _ _ _ (lent (start-at-returns-4 c) p) (lines-right (else1-at-returns-4 c)) (spacing-right (else2-at-returns-4 c))
-    (fit-at-returns-4 c .fit .ensures p) (c .enum-told .given .1))
+    (fitting (fit-at-returns-4 c) p) (c .enum-told .given .1))
 
 pub admit-spec : {M : Type 1} → statement M
 admit-spec =
     tie.close
-    (tie.spec (λ c κs. search needs) returns (λ c κs. search needs) returns-2 fit-requires (λ c. search needs)
+    (tie.spec (λ c κs. search needs) returns (λ c κs. search needs) returns-2 (λ c κs. search needs) fit-requires (λ c. search needs)
     (λ c. search needs) returns-3 returns-4)

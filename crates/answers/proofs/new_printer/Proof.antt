@@ -6,7 +6,7 @@ use Rattle.answers.proofs.new_printer.Tie as tie
 
 returns : tie.Need-returns
 unfolding no-tabs
-returns c = simp (c .top .ensures)
+returns c = simp (c .top-row .ensures)
 
 pub new-printer-spec : {M : Type 1} → statement M
 new-printer-spec = tie.close (tie.spec (λ c κs. search needs) returns)

@@ -3,6 +3,7 @@ mod Places
 use Prim.Native.Nat.{_-_}
 use mathlib.Core.Path.{_≡_, _∙_}
 use lib.ListN.{length}
+use native.Mathlib.Omega.{arith}
 use borrow.Author.Needs.{needs}
 use Rattle.listing.proofs.list_piece.Statement.{statement}
 use Rattle.listing.proofs.list_piece.Tie as tie
@@ -38,6 +39,10 @@ same-length-3 c = kept (list-rest-at-then3 c) .2
 same-length-4 : tie.Need-same-length-4 Inv-loop μ-loop
 same-length-4 c = kept (list-rest-at-then3 c) .3
 
+-- the turn began inside the piece and took a byte
+loop-less : tie.Need-loop-less Inv-loop μ-loop
+loop-less c = omega (arith, c .if3 .left, then1-at-loop-less c .if1 .taken)
+
 loop-again : tie.Need-loop-again Inv-loop μ-loop
 loop-again c = kept (list-rest-at-else3 c)
 
@@ -45,5 +50,5 @@ pub list-piece-spec : {M : Type 1} → statement M
 list-piece-spec =
     tie.close
     (tie.spec Inv-loop μ-loop (λ c κs. search needs) (λ c. search needs) (λ c κs. search needs) (λ c κs. search needs) same-length same-length-2
-    same-length-3 same-length-4 (λ c. search needs) (λ c. search needs) loop-again (λ c. search needs) (λ c. search needs) (λ c. search needs)
+    same-length-3 same-length-4 (λ c. search needs) loop-less loop-again (λ c. search needs) (λ c. search needs) (λ c. search needs)
     (λ c. search needs) (λ c. search needs) (λ c. search needs) (λ c. search needs) (λ c. search needs) (λ c. search needs) (λ c. search needs))

@@ -2,35 +2,49 @@
 mod Places
 use borrow.Author.Needs.{needs}
 use mathlib.Core.Bool.{true}
-use mathlib.Core.Path.{_≡_, sym, _∙_}
+use mathlib.Core.Path.{_≡_, ap, sym, _∙_}
+use Prim.Native.Nat.{ℕ}
 use borrow.Author.Tests.{not-false, not-true}
-use Rattle.words.specs.Words.{at-most, in-range, part}
+use lib.ListN.{getD}
+use Rattle.words.specs.Words.{at-most, in-range, number-limit, part}
 use Rattle.words.proofs.in_range.Statement.{statement}
 use Rattle.words.proofs.in_range.Tie as tie
 use Places.*
 
-held1 : (c : tie.Else1) → at-most 4294967295 (part 2 1 (c .before .before .before .args .state .now)) ≡ true
+held1 : (c : tie.Else1) → at-most 1 (part 0 1 (c .before .before .before .args .state .now)) ≡ true
 held1 c = sym (c .before .at-most .ensures) ∙ not-false (c .before .at-most .result) (c .if1 .left)
 
-held2 : (c : tie.Else2) → at-most 1 (part 5 7 (start-at-else2 c .args .state .now)) ≡ true
+held2 : (c : tie.Else2) → at-most 4294967295 (part 5 1 (start-at-else2 c .args .state .now)) ≡ true
 held2 c = sym (c .before .at-most2 .ensures) ∙ not-false (c .before .at-most2 .result) (c .if2 .left)
 
-held3 : (c : tie.Else3) → at-most 10 (part 14 1 (start-at-else3 c .args .state .now)) ≡ true
+held3 : (c : tie.Else3) → at-most 1 (part 8 7 (start-at-else3 c .args .state .now)) ≡ true
 held3 c = sym (c .before .at-most3 .ensures) ∙ not-false (c .before .at-most3 .result) (c .if3 .left)
 
-held4 : (c : tie.Else4) → at-most 4294967295 (part 15 1 (start-at-else4 c .args .state .now)) ≡ true
+held4 : (c : tie.Else4) → at-most 11 (part 17 1 (start-at-else4 c .args .state .now)) ≡ true
 held4 c = sym (c .before .at-most4 .ensures) ∙ not-false (c .before .at-most4 .result) (c .if4 .left)
 
-held5 : (c : tie.Else5) → at-most 255 (part 16 1 (start-at-else5 c .args .state .now)) ≡ true
+held5 : (c : tie.Else5) → at-most 4294967295 (part 18 1 (start-at-else5 c .args .state .now)) ≡ true
 held5 c = sym (c .before .at-most5 .ensures) ∙ not-false (c .before .at-most5 .result) (c .if5 .left)
+
+held6 : (c : tie.Else6) → at-most 255 (part 19 1 (start-at-else6 c .args .state .now)) ≡ true
+held6 c = sym (c .before .at-most6 .ensures) ∙ not-false (c .before .at-most6 .result) (c .if6 .left)
 
 returns : tie.Need-returns
 unfolding in-range
-returns c = simp (← c .before .at-most .ensures, not-true (c .before .at-most .result) (c .if1 .taken))
+returns c =
+    simp (
+      ← c .before .at-most .ensures,
+      not-true (c .before .at-most .result) (c .if1 .taken),
+    )
 
 returns-2 : tie.Need-returns-2
 unfolding in-range
-returns-2 c = simp (held1 (c .before .before), ← c .before .at-most2 .ensures, not-true (c .before .at-most2 .result) (c .if2 .taken))
+returns-2 c =
+    simp (
+      held1 (c .before .before),
+      ← c .before .at-most2 .ensures,
+      not-true (c .before .at-most2 .result) (c .if2 .taken),
+    )
 
 returns-3 : tie.Need-returns-3
 unfolding in-range
@@ -73,13 +87,33 @@ returns-6 c =
       held2 (else2-at-returns-6 c),
       held3 (else3-at-returns-6 c),
       held4 (else4-at-returns-6 c),
-      held5 (c .before),
-      ← c .at-most6 .ensures,
+      held5 (c .before .before),
+      ← c .before .at-most6 .ensures,
+      not-true (c .before .at-most6 .result) (c .if6 .taken),
+    )
+
+-- the last test's bound is the one of the kind
+last : (c : tie.After-at-most7)
+    → at-most (number-limit (getD (start-at-returns-7 c .args .state .now) 17 0)) (part 20 3 (start-at-returns-7 c .args .state .now)) ≡ c .at-most7 .result
+last c =
+    ap (λ (m : ℕ). at-most m (part 20 3 (start-at-returns-7 c .args .state .now))) (sym (c .before .number-limit .ensures)) ∙ sym (c .at-most7 .ensures)
+
+returns-7 : tie.Need-returns-7
+unfolding in-range
+returns-7 c =
+    simp (
+      held1 (else1-at-returns-7 c),
+      held2 (else2-at-returns-7 c),
+      held3 (else3-at-returns-7 c),
+      held4 (else4-at-returns-7 c),
+      held5 (else5-at-returns-7 c),
+      held6 (c .before .before .before),
+      last c,
     )
 
 pub in-range-spec : {M : Type 1} → statement M
 in-range-spec =
     tie.close
-    (tie.spec (λ c. search needs) (λ c κs. search needs) returns (λ c κs. search needs) returns-2 (λ c κs. search needs) returns-3
-    (λ c. search needs) (λ c κs. search needs) returns-4
-    (λ c κs. search needs) returns-5 (λ c κs. search needs) returns-6)
+    (tie.spec (λ c κs. search needs) returns (λ c. search needs) (λ c κs. search needs) returns-2 (λ c κs. search needs) returns-3
+    (λ c κs. search needs) returns-4 (λ c. search needs) (λ c κs. search needs) returns-5 (λ c κs. search needs) returns-6 (λ c. search needs)
+    (λ c κs. search needs) (λ c κs. search needs) returns-7)

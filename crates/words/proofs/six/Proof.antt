@@ -1,4 +1,4 @@
--- `six`: six writes to the last six words leave those before, and each number is no wider than its type.
+-- `six`: six writes to the last six words leave those before, and place and byte are no wider than their types.
 use borrow.Author.Needs.{needs}
 use mathlib.Core.List.{[], _∷_}
 use native.Mathlib.Omega.{arith}
@@ -10,8 +10,8 @@ use Rattle.words.proofs.six.Tie as tie
 returns : tie.Need-returns
 returns c =
     let a = c .args in (
-      written-behind (a .kind ∷ a .place ∷ a .byte ∷ a .count ∷ a .address ∷ a .taken ∷ []) (a .state .now) 14 (c .pre),
-      (omega arith, omega arith, omega arith, omega arith, omega arith),
+      written-behind (a .kind ∷ a .place ∷ a .byte ∷ a .count ∷ a .address ∷ a .taken ∷ []) (a .state .now) 17 (c .pre),
+      (omega arith, omega arith),
     )
 
 pub six-spec : {M : Type 1} → statement M

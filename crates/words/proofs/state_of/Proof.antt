@@ -1,8 +1,6 @@
 -- `state_of`: that the words are a state gives each number that is made narrower its range; all others are read as they stand.
 mod Places
 use borrow.Author.Needs.{needs}
-use mathlib.Core.Path.{ap, _∙_}
-use Rattle.sheet.specs.Form.{row}
 use Rattle.words.proofs.Ranges.{InRange, ranges}
 use Rattle.words.proofs.Reading.{read-state}
 use Rattle.words.proofs.state_of.Statement.{statement}
@@ -13,38 +11,26 @@ held : (c : tie.Start) → InRange (c .args .state .now)
 held c = ranges (c .args .state .now) (c .pre .0) (c .pre .1)
 
 place-requires : tie.Need-place-requires
-place-requires c κs = held (start-at-place-requires c) .place
+place-requires c κs = held (start-at-place-requires c) .job
+
+place-requires-2 : tie.Need-place-requires-2
+place-requires-2 c κs = held (start-at-place-requires-2 c) .place
 
 byte-requires : tie.Need-byte-requires
 byte-requires c κs = held (start-at-byte-requires c) .byte
 
-half-requires : tie.Need-half-requires
-half-requires c κs = held (start-at-half-requires c) .count
-
-half-requires-2 : tie.Need-half-requires-2
-half-requires-2 c κs = held (start-at-half-requires-2 c) .address
-
-half-requires-3 : tie.Need-half-requires-3
-half-requires-3 c κs = held (start-at-half-requires-3 c) .taken
-
-place-requires-2 : tie.Need-place-requires-2
-place-requires-2 c κs = held (start-at-place-requires-2 c) .job
+pending-of-requires : tie.Need-pending-of-requires
+pending-of-requires c κs = let h = held (start-at-pending-of-requires c) in (h .count, h .address, h .taken)
 
 returns : tie.Need-returns
 returns c =
-    read-state (start-at-returns c .args .state .now) (size-at-returns c .size .ensures) (size2-at-returns c .size2 .ensures)
-    (c .place2 .ensures)
-    (row-at-returns c .row .ensures ∙ ap row (size3-at-returns c .size3 .ensures)) (size4-at-returns c .size4 .ensures)
-    (pitch-of-at-returns c .pitch-of .ensures)
-    (place-at-returns c .place .ensures) (byte-at-returns c .byte .ensures) (half-at-returns c .half .ensures) (half2-at-returns c .half2 .ensures)
-    (c .before .before .before .half3 .ensures) (c .before .before .pending-of .ensures)
+    read-state (start-at-returns c .args .state .now) (model-of-at-returns c .model-of .ensures) (form-of-at-returns c .form-of .ensures)
+    (place-at-returns c .place .ensures) (head-of-at-returns c .head-of .ensures) (style-of-at-returns c .style-of .ensures)
+    (place2-at-returns c .place2 .ensures) (byte-at-returns c .byte .ensures) (c .pending-of .ensures)
 
 pub state-of-spec : {M : Type 1} → statement M
 state-of-spec =
     tie.close
-    (tie.spec (λ c. search needs) (λ c κs. search needs) (λ c. search needs) (λ c κs. search needs) (λ c. search needs) (λ c κs. search needs)
-    (λ c κs. search needs) (λ c. search needs) (λ c κs. search needs) (λ c. search needs) (λ c. search needs) (λ c. search needs)
-    (λ c. search needs) (λ c κs. search needs)
-    (λ c. search needs) (λ c. search needs) (λ c. search needs) (λ c. search needs) (λ c. search needs) (λ c. search needs) (λ c. search needs)
-    place-requires (λ c. search needs) byte-requires (λ c. search needs) half-requires (λ c. search needs) half-requires-2 (λ c. search needs)
-    half-requires-3 (λ c κs. search needs) (λ c. search needs) place-requires-2 returns)
+    (tie.spec (λ c. search needs) (λ c κs. search needs) (λ c κs. search needs) (λ c. search needs) place-requires (λ c κs. search needs)
+    (λ c κs. search needs) (λ c. search needs) (λ c. search needs) (λ c. search needs) place-requires-2 (λ c. search needs) (λ c. search needs)
+    byte-requires (λ c. search needs) (λ c. search needs) (λ c. search needs) pending-of-requires returns)

@@ -33,15 +33,15 @@ returns-6 c m = simp (c .quiet6 .ensures, c .before .set-underscore2 .ensures, c
 
 returns-7 : tie.Need-returns-7
 unfolding escape tab-here tab line-of
-returns-7 c m = c .in-turn .ensures m ∙ simp (c .before .set-pitch .ensures, c .before .before .match .keys7)
+returns-7 c m = c .repitched .ensures m ∙ simp (c .before .set-pitch .ensures, c .before .before .match .keys7)
 
 returns-8 : tie.Need-returns-8
 unfolding escape tab-here tab line-of
-returns-8 c m = c .in-turn2 .ensures m ∙ simp (c .before .set-pitch2 .ensures, c .before .before .match .keys8)
+returns-8 c m = c .repitched2 .ensures m ∙ simp (c .before .set-pitch2 .ensures, c .before .before .match .keys8)
 
 returns-9 : tie.Need-returns-9
 unfolding escape tab-here tab line-of
-returns-9 c m = c .in-turn3 .ensures m ∙ simp (c .before .begin-plot .ensures, c .before .before .match .keys9)
+returns-9 c m = c .in-turn .ensures m ∙ simp (c .before .begin-plot .ensures, c .before .before .match .keys9)
 
 returns-10 : tie.Need-returns-10
 unfolding escape tab-here tab line-of

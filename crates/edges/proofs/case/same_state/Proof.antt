@@ -5,10 +5,10 @@ use Rattle.edges.proofs.case.same_state.Statement.{statement}
 use Rattle.edges.proofs.case.same_state.Tie as tie
 
 abbrev Inv-loop : tie.InvT-loop
-Inv-loop one other i₀ i = i ≤ 20
+Inv-loop one other i₀ i = i ≤ 23
 
 abbrev μ-loop : tie.MeasureT-loop
-μ-loop one other i₀ i = 20 - i
+μ-loop one other i₀ i = 23 - i
 
 pub same-state-spec : {M : Type 1} → statement M
 same-state-spec =

@@ -1,11 +1,14 @@
 -- `calls::open`: what is refused is answered with the shut state, over the memory as it was lent; what is not starts a job.
 mod Places
+use native.Mathlib.Omega.{arith}
 use borrow.Author.Needs.{needs}
 use mathlib.Core.Path.{_≡_, ap, sym, _∙_}
+use Rattle.sheet.specs.declared.Form.{Form}
 use Rattle.printer.specs.declared.Printer.{Printer}
 use Rattle.printer.specs.Given.{machine}
-use Rattle.printer.specs.Machine.{Machine, shut}
+use Rattle.printer.specs.Machine.{Machine, opened, shut}
 use Rattle.protocol.specs.declared.Answer.{Answer}
+use Rattle.protocol.specs.declared.Answer.the-variants.{Done}
 use Rattle.protocol.specs.declared.Opened.{Opened}
 use Rattle.protocol.specs.Calls.{unopened}
 use Rattle.protocol.specs.Given.{given-opening}
@@ -39,14 +42,20 @@ returns c p =
     (admit-at-returns c .admit .ensures p) (sym (c .before .before .refusal .ensures) ∙ c .before .if1 .taken)
 
 start-requires : tie.Need-start-requires
-start-requires c κs = fits (else1-at-start-requires c) (shut (start-at-start-requires c .args .model)) .memory
+start-requires c κs =
+    rw (new-form-at-start-requires c .new-form .ensures)
+    ((omega arith, omega arith), fits (else1-at-start-requires c) (shut (start-at-start-requires c .args .model)) .memory)
 
 returns-2 : tie.Need-returns-2
-returns-2 c p = after-start-at-returns-2 c .start .ensures ∙ fits (else1-at-returns-2 c) p .opens
+returns-2 c p =
+    let w = start-at-returns-2 c .args .model in
+    rw (after-start-at-returns-2 c .start .ensures)
+    (ap (λ (f : Form). record { answer = Done; machine = opened w f }) (new-form-at-returns-2 c .new-form .ensures)
+    ∙ fits (else1-at-returns-2 c) p .opens)
 
 pub open-spec : {M : Type 1} → statement M
 open-spec =
     tie.close
     (tie.spec (λ c κs. search needs) (λ c κs. search needs) (λ c κs. search needs) (λ c. search needs) (λ c. search needs) (λ c. search needs)
-    (λ c. search needs) returns start-requires (λ c. search needs) (λ c. search needs)
+    (λ c. search needs) returns (λ c κs. search needs) start-requires (λ c. search needs) (λ c. search needs)
     (λ c. search needs) (λ c. search needs) returns-2)

@@ -14,10 +14,10 @@ returns c =
     let a = start-at-returns c .args in
     simp (
       c .new-printer .ensures,
-      blank-at-returns c .blank .ensures ∙ page-emptied (described (a .model)) (a .form) (a .page .now) (start-at-returns c .pre .page),
-      empty-at-returns c .empty .ensures ∙ line-emptied (described (a .model)) (a .line .now) (start-at-returns c .pre .line),
-      blank2-at-returns c .blank2 .ensures ∙ store-emptied (a .staging .now) (start-at-returns c .pre .staging),
-      c .before .before .before .blank3 .ensures ∙ store-emptied (a .store .now) (start-at-returns c .pre .store),
+      blank-at-returns c .blank .ensures ∙ page-emptied (described (a .model)) (a .form) (a .page .now) (start-at-returns c .pre .1 .page),
+      empty-at-returns c .empty .ensures ∙ line-emptied (described (a .model)) (a .line .now) (start-at-returns c .pre .1 .line),
+      blank2-at-returns c .blank2 .ensures ∙ store-emptied (a .staging .now) (start-at-returns c .pre .1 .staging),
+      c .before .before .before .blank3 .ensures ∙ store-emptied (a .store .now) (start-at-returns c .pre .1 .store),
     )
 
 pub start-spec : {M : Type 1} → statement M

@@ -54,7 +54,10 @@ so-far c = loop-at-run c .loop .i + c .run .result .taken
 -- the run leads on, and lengths stay
 ran : (c : tie.After-run Inv-loop μ-loop) → let s = start-at-run c in
     Underway (edition-of (s .args .p)) (s .args .font .now) (s .args .piece .now) (first s) (ran-to c) (so-far c)
-ran c = after-run (loop-at-run c .loop .inv .underway) (run-leads (edition-of (loop-at-run c .loop .q)) _ (c .run .ensures (loop-at-run c .loop .page)))
+ran c =
+    let l = loop-at-run c .loop in
+    let m = machine (l .q) (l .page) (l .line) (l .staging) (l .store) in
+    after-run (l .inv .underway) (run-leads (edition-of (l .q)) (described-proper (l .q .model)) _ {m = m} (c .run .ensures (l .page)))
 
 line-ran : (c : tie.After-run Inv-loop μ-loop) → length (ran-to c .line) ≡ length (start-at-run c .args .line .now)
 line-ran c = c .run .kept .1 .1 .0 ∙ loop-at-run c .loop .inv .line-kept
@@ -167,6 +170,7 @@ loop-again c =
     record {
       underway =
           after-step {m = ran-to (run-at-step s)} (ran (run-at-step s)) (more (else1-at-step s)) (room (else2-at-step s)) (stepped s) (s .step .ensures)
+          (described-proper (start-at-loop-again c .args .p .model))
           (sym (c .before .before .is-quiet .ensures) ∙ not-false (c .before .before .is-quiet .result) (c .before .if3 .left));
       page-kept = page-stepped s;
       line-kept = line-stepped s;

@@ -14,3 +14,7 @@ module _ {Inv-loop : tie.InvT-loop} {μ-loop : tie.MeasureT-loop} where
   abbrev pub start-at-list-rest : tie.After-list-rest Inv-loop μ-loop → tie.Start Inv-loop μ-loop
   start-at-list-rest c = c .before .before .before .before .before .before .before .before .before .before .before .before .before .before .before
       .before .before
+
+  abbrev pub then1-at-loop-less : tie.Else3 Inv-loop μ-loop → tie.Then1 Inv-loop μ-loop
+  then1-at-loop-less c = c .before .before .before .before .before .before .before .before .before .before .before .before .before .before
+      .before .before .before

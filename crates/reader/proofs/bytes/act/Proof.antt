@@ -88,6 +88,13 @@ returns-11 c =
     acted (acts (start-at-returns-11 c)) (pending9-at-returns-11 c .pending9 .given .1)
     (payload-byte-at-returns-11 c .payload-byte .ensures (a .page .now) (a .line .now))
 
+bracket-byte-requires : tie.Need-bracket-byte-requires
+bracket-byte-requires c κs = start-at-bracket-byte-requires c .pre .form
+
+returns-12 : tie.Need-returns-12
+unfolding act
+returns-12 c = acted (acts (start-at-returns-12 c)) (c .before .before .pending10 .given .1) (c .bracket-byte .ensures (lent (start-at-returns-12 c)))
+
 pub act-spec : {M : Type 1} → statement M
 act-spec =
     tie.close
@@ -95,6 +102,7 @@ act-spec =
     (λ c. search needs) (λ c κs. search needs) reset-requires (λ c. search needs) (λ c κs. search needs) (λ c. search needs)
     (λ c κs. search needs) (λ c κs. search needs) (λ c. search needs) (λ c κs. search needs) (λ c. search needs) (λ c κs. search needs)
     (λ c κs. search needs) (λ c. search needs) (λ c κs. search needs) (λ c. search needs) (λ c κs. search needs) (λ c κs. search needs)
-    (λ c. search needs) (λ c κs. search needs) (λ c. search needs) (λ c. search needs) (λ c. search needs) returns (λ c. search needs) returns-2
+    (λ c. search needs) (λ c κs. search needs) (λ c. search needs) bracket-byte-requires (λ c. search needs) (λ c. search needs)
+    (λ c. search needs) returns (λ c. search needs) returns-2
     returns-3 (λ c. search needs) (λ c. search needs) returns-4 returns-5 returns-6 returns-7 returns-8 returns-9 returns-10 (λ c. search needs)
-    (λ c. search needs) returns-11)
+    (λ c. search needs) returns-11 returns-12)

@@ -3,6 +3,7 @@ mod Places
 use Prim.Native.Nat.{_-_}
 use mathlib.Core.Path.{_∙_}
 use lib.ListN.{length}
+use native.Mathlib.Omega.{arith}
 use borrow.Author.Needs.{needs}
 use Rattle.replay.proofs.Lengths.{Same}
 use Rattle.replay.proofs.script.feed_piece.Statement.{statement}
@@ -44,6 +45,10 @@ same-length-3 c = turned (feed-rest2-at-then3 c) .2 ∙ kept (loop-at-then3 c) .
 same-length-4 : tie.Need-same-length-4 Inv-loop μ-loop
 same-length-4 c = turned (feed-rest2-at-then3 c) .3 ∙ kept (loop-at-then3 c) .3
 
+-- the turn began inside the piece and took a byte
+loop-less : tie.Need-loop-less Inv-loop μ-loop
+loop-less c = omega (arith, c .if3 .left, then1-at-loop-less c .if1 .taken)
+
 loop-again : tie.Need-loop-again Inv-loop μ-loop
 loop-again c =
     let t = turned (feed-rest2-at-else3 c) in
@@ -66,6 +71,6 @@ pub feed-piece-spec : {M : Type 1} → statement M
 feed-piece-spec =
     tie.close
     (tie.spec Inv-loop μ-loop (λ c κs. search needs) (λ c κs. search needs) (λ c. search needs) (λ c κs. search needs) (λ c κs. search needs)
-    same-length same-length-2 same-length-3 same-length-4 (λ c. search needs) (λ c. search needs) loop-again same-length-5 same-length-6 same-length-7
+    same-length same-length-2 same-length-3 same-length-4 (λ c. search needs) loop-less loop-again same-length-5 same-length-6 same-length-7
     same-length-8 (λ c. search needs) (λ c. kept (c .before .before) .0) (λ c. kept (c .before .before) .1) (λ c. kept (c .before .before) .2)
     (λ c. kept (c .before .before) .3) (λ c. search needs))

@@ -2,12 +2,12 @@
 mod Places
 use borrow.Author.Needs.{needs}
 use mathlib.Core.Bool.{true}
-use mathlib.Core.Path.{_≡_, sym, _∙_}
+use mathlib.Core.Path.{_≡_, ap, sym, _∙_}
 use Prim.Native.Nat.{_≤_}
 use native.Mathlib.Omega.{arith}
 use borrow.Author.Tests.{not-false, not-true}
 use Rattle.sheet.specs.Edition.{described}
-use Rattle.sheet.specs.Form.{lines-allowed}
+use Rattle.sheet.specs.Form.{lines-allowed, new-form, page-bytes}
 use Rattle.sheet.proofs.Editions.{described-bounded}
 use Rattle.sheet.proofs.Units.{lines-most, lines-refused, spacing-refused, page-sized, page-bytes-most}
 use Rattle.sheet.proofs.sizes.page_size.Statement.{statement}
@@ -31,13 +31,23 @@ returns-2 : tie.Need-returns-2
 returns-2 c =
     (spacing-refused _ _ _ (lines-right (c .before .before)) (sym (c .before .spacing-allowed .ensures) ∙ not-true _ (c .if2 .taken)), search needs)
 
+-- the form is the one just opened
+new : (c : tie.After-new-form) → let a = start-at-new-form c .args in c .new-form .result ≡ new-form (a .lines) (a .spacing)
+new c = c .new-form .ensures
+
+page-bytes-requires : tie.Need-page-bytes-requires
+page-bytes-requires c κs = rw (new c) (most (else1-at-page-bytes-requires c))
+
 returns-3 : tie.Need-returns-3
 returns-3 c =
-    let on = c .before .before .before in
-    let spacing-right = sym (c .before .before .spacing-allowed .ensures) ∙ not-false _ (c .before .if2 .left) in
-    let row = described-bounded (start-at-returns-3 c .args .model) .bytes in
-    (c .page-bytes .ensures ∙ page-sized _ _ _ (lines-right on) spacing-right, rw (c .page-bytes .ensures) (page-bytes-most _ _ row (most on)))
+    let a = start-at-returns-3 c .args in
+    let e = described (a .model) in
+    let on = else1-at-returns-3 c in
+    let spacing-right = sym (spacing-allowed-at-returns-3 c .spacing-allowed .ensures) ∙ not-false _ (c .before .before .if2 .left) in
+    let bytes : c .page-bytes .result ≡ page-bytes e (new-form (a .lines) (a .spacing)) =
+    c .page-bytes .ensures ∙ ap (page-bytes e) (new (c .before)) in
+    (bytes ∙ page-sized _ _ _ (lines-right on) spacing-right, rw bytes (page-bytes-most e _ (described-bounded (a .model) .bytes) (most on)))
 
 pub page-size-spec : {M : Type 1} → statement M
 page-size-spec =
-    tie.close (tie.spec (λ c κs. search needs) returns (λ c κs. search needs) returns-2 (λ c κs. most (c .before .before)) returns-3)
+    tie.close (tie.spec (λ c κs. search needs) returns (λ c κs. search needs) returns-2 (λ c κs. search needs) page-bytes-requires returns-3)

@@ -1,6 +1,15 @@
 -- The places that the proof of `put` names. Made by tools/places; nobody has to read it.
 use Rattle.words.proofs.put.Tie as tie
 
+abbrev pub lines-through-at-returns : tie.After-slice-known2 → tie.After-lines-through
+lines-through-at-returns c = c .before .before .before .before .before .before .before .before .before .before .before .before .before .before
+
+abbrev pub lines-through2-at-returns : tie.After-slice-known2 → tie.After-lines-through2
+lines-through2-at-returns c = c .before .before .before .before .before .before .before .before .before .before .before .before .before
+
+abbrev pub model-word-at-returns : tie.After-slice-known2 → tie.After-model-word
+model-word-at-returns c = c .before .before .before .before .before .before .before .before .before .before .before .before .before .before .before
+
 abbrev pub pitch-word-at-returns : tie.After-slice-known2 → tie.After-pitch-word
 pitch-word-at-returns c = c .before .before .before .before .before .before .before
 
@@ -9,11 +18,11 @@ rows-above-at-returns c = c .before .before .before .before .before .before .bef
 
 abbrev pub start-at-put-pending-requires : tie.After-put-pending-arg → tie.Start
 start-at-put-pending-requires c = c .before .before .before .before .before .before .before .before .before .before .before .before .before .before
-    .before
+    .before .before .before .before .before .before
 
 abbrev pub start-at-returns : tie.After-slice-known2 → tie.Start
 start-at-returns c = c .before .before .before .before .before .before .before .before .before .before .before .before .before .before .before .before
-    .before .before
+    .before .before .before .before .before .before .before
 
 abbrev pub truth-at-returns : tie.After-slice-known2 → tie.After-truth
 truth-at-returns c = c .before .before .before .before .before .before .before .before .before .before

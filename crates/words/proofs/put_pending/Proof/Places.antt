@@ -4,11 +4,23 @@ use Rattle.words.proofs.put_pending.Tie as tie
 abbrev pub enum-told-at-returns : tie.After-slice-known2 → tie.After-enum-told
 enum-told-at-returns c = c .before .before .before .before
 
+abbrev pub known-told10-at-returns-11 : tie.After-slice-known12 → tie.After-known-told10
+known-told10-at-returns-11 c = c .before .before .before .before .before .before .before
+
+abbrev pub known-told8-at-returns-9 : tie.After-slice-known10 → tie.After-known-told8
+known-told8-at-returns-9 c = c .before .before .before .before
+
+abbrev pub known-told9-at-returns-10 : tie.After-slice-known11 → tie.After-known-told9
+known-told9-at-returns-10 c = c .before .before .before .before
+
 abbrev pub pending-at-returns-2 : tie.After-slice-known3 → tie.After-pending
 pending-at-returns-2 c = c .before .before .before .before .before
 
 abbrev pub pending10-at-returns-11 : tie.After-slice-known12 → tie.After-pending10
-pending10-at-returns-11 c = c .before .before .before .before .before
+pending10-at-returns-11 c = c .before .before .before .before .before .before .before .before
+
+abbrev pub pending11-at-returns-12 : tie.After-slice-known13 → tie.After-pending11
+pending11-at-returns-12 c = c .before .before .before .before .before
 
 abbrev pub pending2-at-returns-3 : tie.After-slice-known4 → tie.After-pending2
 pending2-at-returns-3 c = c .before .before .before .before .before
@@ -41,7 +53,10 @@ abbrev pub start-at-returns-10 : tie.After-slice-known11 → tie.Start
 start-at-returns-10 c = c .before .before .before .before .before .before .before .before
 
 abbrev pub start-at-returns-11 : tie.After-slice-known12 → tie.Start
-start-at-returns-11 c = c .before .before .before .before .before .before .before .before
+start-at-returns-11 c = c .before .before .before .before .before .before .before .before .before .before .before
+
+abbrev pub start-at-returns-12 : tie.After-slice-known13 → tie.Start
+start-at-returns-12 c = c .before .before .before .before .before .before .before .before
 
 abbrev pub start-at-returns-2 : tie.After-slice-known3 → tie.Start
 start-at-returns-2 c = c .before .before .before .before .before .before .before .before

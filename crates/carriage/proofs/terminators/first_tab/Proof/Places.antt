@@ -6,7 +6,7 @@ module _ {Inv-loop : tie.InvT-loop} {μ-loop : tie.MeasureT-loop} where
   loop-at-returns c = c .before .before .before .before
 
   abbrev pub start-at-loop-again : tie.Else1 Inv-loop μ-loop → tie.Start Inv-loop μ-loop
-  start-at-loop-again c = c .before .before .before .before .before
+  start-at-loop-again c = c .before .before .before .before
 
   abbrev pub start-at-returns : tie.After-line Inv-loop μ-loop → tie.Start Inv-loop μ-loop
-  start-at-returns c = c .before .before .before .before .before .before
+  start-at-returns c = c .before .before .before .before .before

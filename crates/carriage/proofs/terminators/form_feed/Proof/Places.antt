@@ -5,7 +5,10 @@ abbrev pub form-done-at-returns : tie.After-slice-known4 → tie.After-form-done
 form-done-at-returns c = c .before .before .before .before
 
 abbrev pub start-at-returns : tie.After-slice-known4 → tie.Start
-start-at-returns c = c .before .before .before .before .before .before .before .before .before .before
+start-at-returns c = c .before .before .before .before .before .before .before .before .before .before .before
 
-abbrev pub top-at-returns : tie.After-slice-known4 → tie.After-top
-top-at-returns c = c .before .before .before .before .before .before .before
+abbrev pub start-at-top-row-requires : tie.After-form → tie.Start
+start-at-top-row-requires c = c .before .before .before
+
+abbrev pub top-row-at-returns : tie.After-slice-known4 → tie.After-top-row
+top-row-at-returns c = c .before .before .before .before .before .before .before

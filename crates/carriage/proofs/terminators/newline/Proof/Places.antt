@@ -41,8 +41,11 @@ abbrev pub start-at-returns-2 : tie.After-slice-known6 → tie.Start
 start-at-returns-2 c = c .before .before .before .before .before .before .before .before .before .before .before .before .before .before .before
     .before
 
+abbrev pub start-at-top-row-requires : tie.Else1 → tie.Start
+start-at-top-row-requires c = c .before .before .before .before .before .before .before .before
+
 abbrev pub then1-at-returns : tie.After-slice-known4 → tie.Then1
 then1-at-returns c = c .before .before .before .before .before .before .before
 
-abbrev pub top-at-returns-2 : tie.After-slice-known6 → tie.After-top
-top-at-returns-2 c = c .before .before .before .before .before .before .before
+abbrev pub top-row-at-returns-2 : tie.After-slice-known6 → tie.After-top-row
+top-row-at-returns-2 c = c .before .before .before .before .before .before .before

@@ -79,6 +79,11 @@ module _ {Inv-loop : tie.InvT-loop} {μ-loop : tie.MeasureT-loop} where
   start-at-else1 c = c .before .before .before .before .before .before .before .before .before .before .before .before .before .before .before .before
       .before .before .before .before
 
+  abbrev pub start-at-loop-again : tie.After-q Inv-loop μ-loop → tie.Start Inv-loop μ-loop
+  start-at-loop-again c = c .before .before .before .before .before .before .before .before .before .before .before .before .before .before .before
+      .before .before .before .before .before .before .before .before .before .before .before .before .before .before .before .before .before .before
+      .before .before .before .before .before .before
+
   abbrev pub start-at-loop-holds : tie.After-shared-slice-known2 Inv-loop μ-loop → tie.Start Inv-loop μ-loop
   start-at-loop-holds c = c .before .before .before .before .before .before
 

@@ -22,6 +22,9 @@ pending9-at-returns-11 c = c .before .before .before .before .before .before .be
 abbrev pub reset-at-returns-4 : tie.After-slice-known9 → tie.After-reset
 reset-at-returns-4 c = c .before .before .before .before
 
+abbrev pub start-at-bracket-byte-requires : tie.After-known-told10 → tie.Start
+start-at-bracket-byte-requires c = c .before .before .before .before .before .before .before .before
+
 abbrev pub start-at-reset-requires : tie.After-reset-arg2 → tie.Start
 start-at-reset-requires c = c .before .before .before .before .before .before .before .before .before .before .before
 
@@ -33,6 +36,9 @@ start-at-returns-10 c = c .before .before .before .before .before .before .befor
 
 abbrev pub start-at-returns-11 : tie.After-slice-known11 → tie.Start
 start-at-returns-11 c = c .before .before .before .before .before .before .before .before .before .before .before .before .before .before .before
+
+abbrev pub start-at-returns-12 : tie.After-bracket-byte → tie.Start
+start-at-returns-12 c = c .before .before .before .before .before .before .before .before .before
 
 abbrev pub start-at-returns-2 : tie.After-slice-known7 → tie.Start
 start-at-returns-2 c = c .before .before .before .before .before .before .before .before .before .before .before .before

@@ -10,6 +10,9 @@ start-at-returns-10 c = c .before .before .before .before .before .before .befor
 abbrev pub start-at-returns-11 : tie.After-none9 → tie.Start
 start-at-returns-11 c = c .before .before .before .before .before .before .before .before .before
 
+abbrev pub start-at-returns-12 : tie.After-none10 → tie.Start
+start-at-returns-12 c = c .before .before .before .before .before .before .before .before .before
+
 abbrev pub start-at-returns-2 : tie.After-slice-known4 → tie.Start
 start-at-returns-2 c = c .before .before .before .before .before .before .before .before .before .before .before .before .before
 
