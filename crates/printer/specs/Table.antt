@@ -1,17 +1,17 @@
--- The proved table, cases A to L. Document 01, "The proved table".
+-- The proved table, cases A to L. Document 01, "The proved table". Behind it cases of the 6215's own commands, document 02, #105.
 use Prim.Native.Nat.{ℕ}
 use mathlib.Core.Bool.{Bool, true, false, not}
 use mathlib.Core.List.{List, [], _∷_, _++_, map}
 use mathlib.Core.Path.{_≡_}
 use lib.ListN.{drop, getD, replicate, take}
-use Rattle.sheet.specs.declared.Model.the-variants.{Lp2}
-use Rattle.sheet.specs.Edition.{lp2}
+use Rattle.sheet.specs.declared.Model.{Model}
+use Rattle.sheet.specs.Edition.{described}
 use Rattle.sheet.specs.Form.{new-form}
 use Rattle.glyph.specs.CapitalB.{capital-b}
 use Rattle.printer.specs.Bytes.{run}
 use Rattle.printer.specs.Closing.{closing}
 use Rattle.printer.specs.Commands.{reading}
-use Rattle.printer.specs.Machine.{Machine, opened, with-head}
+use Rattle.printer.specs.Machine.{Machine, edition-of, opened, with-head}
 use Rattle.printer.specs.Numbers.{Report, close-report, plain, told-report}
 use Rattle.printer.specs.Steps.{Outcome}
 
@@ -34,7 +34,7 @@ look-at row m = number (m .printer .head .row .0)
 look-at position m = number (m .printer .head .column)
 look-at (column c) m = number (getD (m .line) c 0)
 look-at (stored from count) m = bytes (take count (drop from (m .store)))
-look-at closed m = answer (close-report (closing lp2 (m .printer)))
+look-at closed m = answer (close-report (closing (edition-of (m .printer)) (m .printer)))
 
 pub record Sight : Type 0 where
   pub look : Look
@@ -52,10 +52,10 @@ pub record Case : Type 0 where
   pub seen : List Sight
 
 -- L = 66, 6 an inch: a job just opened, but for the row and the line
-abbrev pub start : ℕ → Bool → Machine
-start r plotted =
+abbrev pub start : Model → ℕ → Bool → Machine
+start w r plotted =
     with-head (record { row = record { 0 = r }; column = 0; fresh = not plotted; plotted = plotted; plotting = false })
-    (opened Lp2 (new-form 66 6))
+    (opened w (new-form 66 6))
 
 -- a case that starts on the first row, and one that starts on another
 abbrev pub from-top : List ℕ → List Report → List Sight → Case
@@ -107,6 +107,42 @@ table =
     ∷ from-top (0x1b ∷ 0x30 ∷ []) (note-at 42 0 ∷ []) []
     ∷ []
 
+-- ESC [, its digits and semicolons with the last byte, and what follows
+abbrev pub bracketed : List ℕ → List ℕ → List ℕ
+bracketed command rest = 0x1b ∷ 0x5b ∷ (command ++ rest)
+
+-- Print styles: of each, the positions that a character takes. No other v, no omitted one and no semicolon; another last byte.
+unfoldable pub styles : List Case
+styles =
+    from-top (bracketed (0x30 ∷ 0x77 ∷ []) (0x41 ∷ [])) [] (sees position (number 100) ∷ [])
+    ∷ from-top (bracketed (0x32 ∷ 0x77 ∷ []) (0x41 ∷ [])) [] (sees position (number 60) ∷ [])
+    ∷ from-top (bracketed (0x30 ∷ 0x34 ∷ 0x77 ∷ []) (0x41 ∷ [])) [] (sees position (number 50) ∷ [])
+    ∷ from-top (0x41 ∷ bracketed (0x36 ∷ 0x77 ∷ []) (0x41 ∷ [])) [] (sees position (number 80) ∷ [])
+    ∷ from-top (bracketed (0x33 ∷ 0x77 ∷ []) []) (note-at 46 0 ∷ []) []
+    ∷ from-top (bracketed (0x77 ∷ []) []) (note-at 46 0 ∷ []) []
+    ∷ from-top (bracketed (0x34 ∷ 0x3b ∷ 0x77 ∷ []) []) (note-at 46 0 ∷ []) []
+    ∷ from-top (bracketed (0x34 ∷ 0x1b ∷ []) (0x41 ∷ [])) (note-at 42 0 ∷ []) (sees position (number 50) ∷ [])
+    ∷ []
+
+-- Form and spacing: a page is finished, and the new one begins at line N2; its tabs stay. Then a bad form, one out of place, and a bad value, which
+-- is noted before that.
+unfoldable pub forms : List Case
+forms =
+    from-top (bracketed (0x33 ∷ 0x30 ∷ 0x3b ∷ 0x35 ∷ 0x3b ∷ 0x32 ∷ 0x30 ∷ 0x72 ∷ []) []) (form-finished ∷ []) (sees row (number 48) ∷ [])
+    ∷ from-top (0x1b ∷ 0x46 ∷ 0x0a ∷ 0x28 ∷ 0x00 ∷ bracketed (0x31 ∷ 0x32 ∷ 0x3b ∷ 0x3b ∷ 0x31 ∷ 0x32 ∷ 0x72 ∷ []) (0x0b ∷ [])) (form-finished ∷ [])
+    (sees row (number 108) ∷ [])
+    ∷ from-top (bracketed (0x33 ∷ 0x30 ∷ 0x72 ∷ []) []) (note-at 43 0 ∷ []) []
+    ∷ from-top (bracketed (0x31 ∷ 0x31 ∷ 0x33 ∷ 0x72 ∷ []) []) (note-at 43 0 ∷ []) []
+    ∷ from-top (bracketed (0x3b ∷ 0x3b ∷ 0x3b ∷ 0x72 ∷ []) []) (note-at 43 0 ∷ []) []
+    ∷ from-top (bracketed (0x3b ∷ 0x3b ∷ 0x72 ∷ []) []) (form-finished ∷ []) []
+    ∷ from-top (bracketed (0x32 ∷ 0x7a ∷ []) (0x0a ∷ [])) (form-finished ∷ []) (sees row (number 9) ∷ [])
+    ∷ from-top (bracketed (0x31 ∷ 0x7a ∷ []) (0x0a ∷ [])) (form-finished ∷ []) (sees row (number 12) ∷ [])
+    ∷ from-top (0x41 ∷ bracketed (0x32 ∷ 0x7a ∷ []) []) (note-at 43 1 ∷ []) []
+    ∷ from-row 12 false (bracketed (0x32 ∷ 0x7a ∷ []) []) (note-at 43 0 ∷ []) []
+    ∷ from-top (0x41 ∷ bracketed (0x33 ∷ 0x7a ∷ []) []) (note-at 46 1 ∷ []) []
+    ∷ from-top (0x41 ∷ bracketed (0x7a ∷ []) []) (note-at 46 1 ∷ []) []
+    ∷ []
+
 -- what is told of a job, and what is then seen
 pub record Findings : Type 0 where
   pub told : List Report
@@ -117,16 +153,16 @@ unfoldable pub stated : Case → Findings
 stated c = record { told = c .told; seen = map (λ (s : Sight). s .finds) (c .seen) }
 
 -- what a way of reading a job makes of a case
-unfoldable pub found : (List ℕ → Machine → Outcome) → Case → Findings
-found read c =
-    let o : Outcome = read (c .job) (start (c .row) (c .plotted)) in
+unfoldable pub found : Model → (List ℕ → Machine → Outcome) → Case → Findings
+found w read c =
+    let o : Outcome = read (c .job) (start w (c .row) (c .plotted)) in
     record { told = map told-report (o .told); seen = map (λ (s : Sight). look-at (s .look) (o .machine)) (c .seen) }
 
--- a way of reading finds in each case of the table what the case says
-abbrev pub Meets : (List ℕ → Machine → Outcome) → Type 0
-Meets read = map (found read) table ≡ map stated table
+-- a way of reading finds in each of some cases what the case says
+abbrev pub Meets : Model → List Case → (List ℕ → Machine → Outcome) → Type 0
+Meets w cases read = map (found w read) cases ≡ map stated cases
 
 -- both readings do, whatever the font
-pub record Holds : Type 0 where
-  pub by-bytes : (font : List ℕ) → Meets (run lp2 font)
-  pub by-commands : (font : List ℕ) → Meets (reading lp2 font)
+pub record Holds (w : Model) (cases : List Case) : Type 0 where
+  pub by-bytes : (font : List ℕ) → Meets w cases (run (described w) font)
+  pub by-commands : (font : List ℕ) → Meets w cases (reading (described w) font)

@@ -39,11 +39,11 @@ in-one-piece feed job m = outcome (delivery lp2 feed (job ∷ []) m)
 
 -- demand 2 for a program at a case of the table
 abbrev pub MeetsCase : Program → Case → Type 0
-MeetsCase feed c = found (in-one-piece feed) c ≡ stated c
+MeetsCase feed c = found Lp2 (in-one-piece feed) c ≡ stated c
 
 -- a job just opened, on 66 lines at 6 an inch
 abbrev pub at-top : Machine
-at-top = start 0 false
+at-top = start Lp2 0 false
 
 -- demand 3 for a program at a cutting: such a job is delivered as the whole of it is read
 abbrev pub MeetsCutting : List ℕ → Program → List (List ℕ) → Type 0
@@ -72,7 +72,7 @@ abbrev findings : ℕ → List Findings → Findings
 findings i fs = getD fs i (record { told = []; seen = [] })
 
 -- a program that meets the table meets them
-pub table-has : (feed : Program) → Meets (in-one-piece feed) → MeetsCase feed case-b × MeetsCase feed case-c × MeetsCase feed case-h
+pub table-has : (feed : Program) → Meets Lp2 table (in-one-piece feed) → MeetsCase feed case-b × MeetsCase feed case-c × MeetsCase feed case-h
 unfolding table
 table-has feed h = (ap (findings 1) h, ap (findings 2) h, ap (findings 7) h)
 

@@ -30,12 +30,12 @@ use Rattle.protocol.proofs.Cutting.{any-cutting-from}
 fresh-row : (plotted : Bool) → T (not plotted) → (_≡_ {A = ℕ} 0 0) × (plotted ≡ false)
 fresh-row false t = (refl, refl)
 
-start-ready : (r : ℕ) (plotted : Bool) → r + 9 ≤ 792 → Ready lp2 (start r plotted)
+start-ready : (r : ℕ) (plotted : Bool) → r + 9 ≤ 792 → Ready lp2 (start Lp2 r plotted)
 unfolding rows-per-line top-row first-row lines-allowed spacing-allowed lp2
 start-ready r plotted l =
     let f : Form = new-form 66 6 in
     let h : Ready lp2 (opened Lp2 f) = opened-ready Lp2 66 6 refl refl in
-    let head : SoundHead f (lp2 .width Normal) (start r plotted .printer .head) =
+    let head : SoundHead f (lp2 .width Normal) (start Lp2 r plotted .printer .head) =
     record { above = omega arith; row = l; column = omega arith; fresh = fresh-row plotted } in
     record {
       printer = record { form = h .printer .form; head = head; tabs = h .printer .tabs; load = tt; place = tt; plot = λ t. absurd t };
@@ -60,7 +60,7 @@ module _ (font : List ℕ) (sized : length font ≡ store-size) where
   whole job m = delivery lp2 (feeding lp2 font) (job ∷ []) m
 
   one-piece : (c : Case) → fed c ≡ true
-      → whole (c .job) (start (c .row) (c .plotted)) ≡ delivered (reading lp2 font (c .job) (start (c .row) (c .plotted)))
+      → whole (c .job) (start Lp2 (c .row) (c .plotted)) ≡ delivered (reading lp2 font (c .job) (start Lp2 (c .row) (c .plotted)))
   unfolding joined
   one-piece c q =
       let t = and-eq-true-iff _ _ .0 q in
@@ -70,7 +70,7 @@ module _ (font : List ℕ) (sized : length font ≡ store-size) where
       (c .job ∷ []) (simp append-nil (omega arith)))
 
   found-same : (cs : List Case) → all-fed cs ≡ true
-      → map (found (λ (job : List ℕ) (m : Machine). outcome (whole job m))) cs ≡ map (found (reading lp2 font)) cs
+      → map (found Lp2 (λ (job : List ℕ) (m : Machine). outcome (whole job m))) cs ≡ map (found Lp2 (reading lp2 font)) cs
   unfolding found
   found-same [] q = refl
   found-same (c ∷ cs) q =
@@ -78,7 +78,7 @@ module _ (font : List ℕ) (sized : length font ≡ store-size) where
       rw (one-piece c (t .0), found-same cs (t .1))
 
   done-all : (cs : List Case) → all-fed cs ≡ true
-      → map (λ (c : Case). report (whole (c .job) (start (c .row) (c .plotted)) .answer)) cs ≡ map (λ (c : Case). plain 0) cs
+      → map (λ (c : Case). report (whole (c .job) (start Lp2 (c .row) (c .plotted)) .answer)) cs ≡ map (λ (c : Case). plain 0) cs
   unfolding report
   done-all [] q = refl
   done-all (c ∷ cs) q =
@@ -86,9 +86,9 @@ module _ (font : List ℕ) (sized : length font ≡ store-size) where
       rw (one-piece c (t .0), done-all cs (t .1))
 
   -- the calls find in each case of the table what the case says
-  pub calls-meet : Meets (λ (job : List ℕ) (m : Machine). outcome (whole job m))
+  pub calls-meet : Meets Lp2 table (λ (job : List ℕ) (m : Machine). outcome (whole job m))
   calls-meet = found-same table table-fed ∙ cases .by-commands font
 
   -- and the last answer of each is 0
-  pub calls-done : map (λ (c : Case). report (whole (c .job) (start (c .row) (c .plotted)) .answer)) table ≡ map (λ (c : Case). plain 0) table
+  pub calls-done : map (λ (c : Case). report (whole (c .job) (start Lp2 (c .row) (c .plotted)) .answer)) table ≡ map (λ (c : Case). plain 0) table
   calls-done = done-all table table-fed
