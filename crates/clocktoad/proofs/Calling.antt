@@ -7,8 +7,9 @@ use native.Mathlib.Omega.{arith}
 use borrow.Author.Tests.{eq-eqb, ne-eqb}
 use lib.Dec.{eqb}
 use lib.ListN.{length}
+use Rattle.sheet.specs.declared.Model.{Model}
 use Rattle.sheet.specs.declared.Model.the-variants.{Lp2}
-use Rattle.sheet.specs.Edition.{Edition}
+use Rattle.sheet.specs.Edition.{Edition, described}
 use Rattle.printer.specs.declared.Closing.{Closing}
 use Rattle.printer.specs.declared.Printer.{Printer}
 use Rattle.printer.specs.Closing.{closing}
@@ -23,12 +24,12 @@ use Rattle.protocol.specs.Answers.{lent-number, refusal, report}
 use Rattle.protocol.specs.declared.Fit.{Fit}
 use Rattle.protocol.specs.declared.Fit.the-variants.{Right, Wrong}
 use Rattle.protocol.specs.declared.Lent as lent
-use Rattle.protocol.specs.Calls.{Feeding, Opening, feed-fitted, feeding, fit, opening}
+use Rattle.protocol.specs.Calls.{Feeding, Opening, feed-fitted, feeding, fit, opening, page-due}
 use Rattle.protocol.proofs.Answering.{taking-heeds}
 use Rattle.protocol.proofs.Ways.{feed-misfit, feed-unsound}
 use Rattle.clocktoad.specs.Calls.{Called, Closed, called, close-call, closing-report, closing-words, feed-call, feeding-report, feeding-words}
-use Rattle.clocktoad.specs.Calls.{open-call, opening-words, refused-or, report-size}
-use Rattle.words.specs.Words.{is-state, state-of, state-size, state-words}
+use Rattle.clocktoad.specs.Calls.{due-call, model-call, of-model, open-call, opening-words, refused-or, report-size, shut-words}
+use Rattle.words.specs.Words.{is-model, is-state, model-of, state-of, state-size, state-words}
 
 -- the memory that opening and feeding are lent, with the state
 pub record Lent : Type 0 where
@@ -43,19 +44,21 @@ pub record Lent : Type 0 where
 abbrev left-alone : Lent → ℕ → List ℕ → Called
 left-alone x number told = called number (x .state) (x .page) (x .line) (x .staging) (x .store) told
 
-module _ (lines spacing : ℕ) (x : Lent) where
-  abbrev opens-as : Opening
-  opens-as = opening Lp2 lines spacing (x .font) (machine (shut Lp2) (x .page) (x .line) (x .staging) (x .store))
+-- words that take the place of others are a state where those are as many as one has
+abbrev InPlace : List ℕ → List ℕ → Type 0
+InPlace state words = length state ≡ state-size → is-state words ≡ true
 
-  -- what opening is to give, and a state with it where there are words for one
+module _ (w : Model) (lines spacing : ℕ) (x : Lent) where
+  abbrev opens-as : Opening
+  opens-as = opening w lines spacing (x .font) (machine (shut w) (x .page) (x .line) (x .staging) (x .store))
+
+  -- what a model's opening is to give, and a state with it
   abbrev Opens : Called → Type 0
-  Opens g =
-      (g ≡ open-call lines spacing (x .font) (x .state) (x .page) (x .line) (x .staging) (x .store))
-      × (length (x .state) ≡ state-size → is-state (g .state) ≡ true)
+  Opens g = (g ≡ model-call w lines spacing (x .font) (x .state) (x .page) (x .line) (x .staging) (x .store)) × InPlace (x .state) (g .state)
 
   pub open-unkept : {number : ℕ} {a : Answer} → (length (x .state) ≡ state-size → ⊥) → number ≡ refused-or 21 a → a ≡ opens-as .answer
       → Opens (left-alone x number [])
-  unfolding open-call
+  unfolding model-call
   open-unkept n r e = (rw (ne-eqb (length (x .state)) state-size n, r, e), λ l. absurd (n l))
 
   pub opens : (o : Opening) {words : List ℕ} {number : ℕ} → length (x .state) ≡ state-size
@@ -63,8 +66,36 @@ module _ (lines spacing : ℕ) (x : Lent) where
       → (words ≡ state-words (o .machine .printer)) × (is-state words ≡ true)
       → number ≡ report (o .answer) .number
       → Opens (called number words (o .machine .page) (o .machine .line) (o .machine .staging) (o .machine .store) [])
-  unfolding open-call opening-words
+  unfolding model-call opening-words
   opens o l e w n = (rw (eq-eqb (length (x .state)) state-size l, ← e, w .0, n), λ m. w .1)
+
+-- too few words or too many stay as they are, others become the shut state's
+module _ (state : List ℕ) where
+  abbrev Shuts : List ℕ → Type 0
+  Shuts words = (words ≡ shut-words state) × InPlace state words
+
+  pub shut-kept : (length state ≡ state-size → ⊥) → Shuts state
+  unfolding shut-words
+  shut-kept n = (rw (ne-eqb (length state) state-size n), λ l. absurd (n l))
+
+  pub shut-put : {p : Printer} {words : List ℕ} → length state ≡ state-size → p ≡ shut Lp2 → (words ≡ state-words p) × (is-state words ≡ true)
+      → Shuts words
+  unfolding shut-words
+  shut-put l s w = (rw (eq-eqb (length state) state-size l, w .0, s), λ m. w .1)
+
+-- Opening by a model's number.
+module _ (model lines spacing : ℕ) (x : Lent) where
+  abbrev at-open : Called
+  at-open = open-call model lines spacing (x .font) (x .state) (x .page) (x .line) (x .staging) (x .store)
+
+  pub open-unknown : {words : List ℕ} → is-model model ≡ false → Shuts (x .state) words
+      → (called 23 words (x .page) (x .line) (x .staging) (x .store) [] ≡ at-open) × InPlace (x .state) words
+  unfolding open-call
+  open-unknown n s = (rw (n, s .0), s .1)
+
+  pub open-known : (g : Called) {w : Model} → is-model model ≡ true → w ≡ model-of model → Opens w lines spacing x g → (g ≡ at-open) × InPlace (x .state) (g .state)
+  unfolding open-call
+  open-known g k m o = (o .0 ∙ rw (k, m), o .1)
 
 -- a refusal has a number of its own
 pub refusal-numbers : (a : Answer) → refusal a ≡ true → 10 ≤ report a .number
@@ -177,3 +208,22 @@ module _ (state told : List ℕ) where
           → place ≡ value 0 (close-report c) → record { number = number; report = report } ≡ at-close
       unfolding closing-words closing-report
       closed-told k r p = rw (← e, other, eq-eqb (length told) report-size k, n, r, p)
+
+-- Sizes by a model's number, and the page that is due.
+module _ (model : ℕ) (size : Edition → ℕ) where
+  pub size-unknown : is-model model ≡ false → 0 ≡ of-model model size
+  unfolding of-model
+  size-unknown n = rw n
+
+  pub size-known : {w : Model} {n : ℕ} → is-model model ≡ true → w ≡ model-of model → n ≡ size (described w) → n ≡ of-model model size
+  unfolding of-model
+  size-known k m e = rw (k, e, m)
+
+module _ (state : List ℕ) where
+  pub due-none : is-state state ≡ false → 0 ≡ due-call state
+  unfolding due-call
+  due-none q = rw q
+
+  pub due-held : {p : Printer} {n : ℕ} → is-state state ≡ true → p ≡ state-of state → n ≡ page-due (edition-of p) p → n ≡ due-call state
+  unfolding due-call
+  due-held q s e = rw (q, e, s)

@@ -8,9 +8,10 @@ ghost use Rattle.printer.specs.Given.{machine};
 ghost use Rattle.printer.specs.Machine.{edition-of};
 ghost use Rattle.protocol.specs.Calls.{feeding};
 ghost use Rattle.words.specs.Words.{is-state, state-size};
-ghost use Rattle.clocktoad.specs.Calls.{called, close-call, feed-call, open-call, refused-or, report-size};
+ghost use Rattle.clocktoad.specs.Calls.{called, close-call, feed-call, model-call, open-call, refused-or, report-size, shut-words};
 use answers::admit;
 use answers::fit;
+use answers::shut;
 use job::calls::close;
 use job::calls::feed;
 use job::calls::open;
@@ -26,7 +27,9 @@ use protocol::numbers::refusal;
 use sheet::Model;
 use state::sound;
 use words::STATE_WORDS;
+use words::is_model;
 use words::is_state;
+use words::model_of;
 use words::put;
 use words::state_of;
 
@@ -54,9 +57,9 @@ fn refused_or(number: u64, answer: Answer) -> u64
     number
 }
 
-// Opens a job.
-#[no_mangle]
-pub extern "C" fn clocktoad_open(
+// Opens a job of a model.
+fn open_model(
+    model: Model,
     lines: usize,
     spacing: usize,
     state: &mut [u64],
@@ -67,21 +70,67 @@ pub extern "C" fn clocktoad_open(
     font: &[u8],
 ) -> u64
     ensures { λ r. ⌜ called r (now (state .exit)) (now (page .exit)) (now (line .exit)) (now (staging .exit)) (now (store .exit)) []
-        ≡ open-call lines spacing (now (font .entry)) (now (state .entry)) (now (page .entry))
+        ≡ model-call model lines spacing (now (font .entry)) (now (state .entry)) (now (page .entry))
         (now (line .entry)) (now (staging .entry)) (now (store .entry)) ⌝ }
     ensures { λ r. ⌜ (length (now (state .entry)) ≡ state-size → is-state (now (state .exit)) ≡ true) ⌝ }
 {
     if state.len() != STATE_WORDS {
         return refused_or(
             21,
-            admit(Model::Lp2, lines, spacing, page, line, staging, store, font),
+            admit(model, lines, spacing, page, line, staging, store, font),
         );
     }
-    let opened = open(Model::Lp2, lines, spacing, page, line, staging, store, font);
+    let opened = open(model, lines, spacing, page, line, staging, store, font);
     let printer = opened.printer;
     let answer = opened.answer;
     put(state, printer);
     answer_number(answer)
+}
+
+// Makes the shut state of an LP2 of words that are as many as a state's.
+fn put_shut(state: &mut [u64])
+    ensures { λ _. ⌜ now (state .exit) ≡ shut-words (now (state .entry)) ⌝ }
+    ensures { λ _. ⌜ (length (now (state .entry)) ≡ state-size → is-state (now (state .exit)) ≡ true) ⌝ }
+{
+    if state.len() == STATE_WORDS {
+        put(state, shut(Model::Lp2));
+    }
+}
+
+// Opens a job.
+#[no_mangle]
+pub extern "C" fn clocktoad_open(
+    model: u64,
+    lines: usize,
+    spacing: usize,
+    state: &mut [u64],
+    page: &mut [u8],
+    line: &mut [u16],
+    staging: &mut [u8],
+    store: &mut [u8],
+    font: &[u8],
+) -> u64
+    ensures { λ r. ⌜ called r (now (state .exit)) (now (page .exit)) (now (line .exit)) (now (staging .exit)) (now (store .exit)) []
+        ≡ open-call model lines spacing (now (font .entry)) (now (state .entry)) (now (page .entry))
+        (now (line .entry)) (now (staging .entry)) (now (store .entry)) ⌝ }
+    ensures { λ r. ⌜ (length (now (state .entry)) ≡ state-size → is-state (now (state .exit)) ≡ true) ⌝ }
+{
+    if !is_model(model) {
+        put_shut(state);
+        return 23;
+    }
+    let known = model_of(model);
+    open_model(
+        known,
+        lines,
+        spacing,
+        state,
+        page,
+        line,
+        staging,
+        store,
+        font,
+    )
 }
 
 // The answer to a feeding with a report of the wrong length: 22, after all that feeding refuses besides.

@@ -1,16 +1,20 @@
 // The sizes of what a caller lends.
 ghost use mathlib.Core.Path.{_≡_};
 ghost use Rattle.printer.specs.Machine.{store-size};
-ghost use Rattle.sheet.specs.Edition.{lp2};
+ghost use Rattle.sheet.specs.Edition.{Edition};
 ghost use Rattle.sheet.specs.Form.{page-size};
 ghost use Rattle.words.specs.Words.{state-size};
-ghost use Rattle.clocktoad.specs.Calls.{report-size};
+ghost use Rattle.clocktoad.specs.Calls.{due-call, of-model, report-size};
 use crate::calls::REPORT_WORDS;
+use job::calls::page_due;
 use printer::STORE_BYTES;
-use sheet::Model;
 use sheet::sizes::line_numbers;
 use sheet::sizes::page_size;
 use words::STATE_WORDS;
+use words::is_model;
+use words::is_state;
+use words::model_of;
+use words::state_of;
 
 #[no_mangle]
 pub extern "C" fn clocktoad_state_words() -> usize
@@ -26,19 +30,39 @@ pub extern "C" fn clocktoad_report_words() -> usize
     REPORT_WORDS
 }
 
-// The bytes of a page, 0 where there is no such form.
+// The bytes of a page, 0 where there is no such model or form.
 #[no_mangle]
-pub extern "C" fn clocktoad_page_bytes(lines: usize, spacing: usize) -> usize
-    ensures { λ r. ⌜ r ≡ page-size lp2 lines spacing ⌝ }
+pub extern "C" fn clocktoad_page_bytes(model: u64, lines: usize, spacing: usize) -> usize
+    ensures { λ r. ⌜ r ≡ of-model model (λ (e : Edition). page-size e lines spacing) ⌝ }
 {
-    page_size(Model::Lp2, lines, spacing)
+    if !is_model(model) {
+        return 0;
+    }
+    let known = model_of(model);
+    page_size(known, lines, spacing)
 }
 
+// The bytes of the page that the next feeding takes, 0 where there is no sound state.
 #[no_mangle]
-pub extern "C" fn clocktoad_line_numbers() -> usize
-    ensures { λ r. ⌜ r ≡ lp2 .columns ⌝ }
+pub extern "C" fn clocktoad_page_due(state: &[u64]) -> usize
+    ensures { λ r. ⌜ r ≡ due-call (now (state .entry)) ⌝ }
 {
-    line_numbers(Model::Lp2)
+    if !is_state(state) {
+        return 0;
+    }
+    page_due(state_of(state))
+}
+
+// The numbers of a line store, 0 where there is no such model.
+#[no_mangle]
+pub extern "C" fn clocktoad_line_numbers(model: u64) -> usize
+    ensures { λ r. ⌜ r ≡ of-model model (λ (e : Edition). e .columns) ⌝ }
+{
+    if !is_model(model) {
+        return 0;
+    }
+    let known = model_of(model);
+    line_numbers(known)
 }
 
 #[no_mangle]

@@ -3,13 +3,13 @@ ghost use mathlib.Core.Path.{_≡_};
 ghost use Prim.Native.Nat.{_≤_};
 ghost use lib.ListN.{drop, length};
 ghost use Rattle.sheet.specs.declared.Form.{Form};
-ghost use Rattle.sheet.specs.Edition.{described};
+ghost use Rattle.sheet.specs.Edition.{described, longest-page};
 ghost use Rattle.printer.specs.declared.Printer.{Printer};
 ghost use Rattle.printer.specs.Closing.{closing};
 ghost use Rattle.printer.specs.Given.{machine};
 ghost use Rattle.printer.specs.Machine.{edition-of, opened, store-size};
 ghost use Rattle.printer.specs.Room.{Ready, Sized};
-ghost use Rattle.protocol.specs.Calls.{feeding, opening, take-bytes};
+ghost use Rattle.protocol.specs.Calls.{feeding, opening, page-due, take-bytes};
 ghost use Rattle.protocol.specs.Given.{given-feeding, given-opening, more};
 use answers::admit;
 use answers::answer_to;
@@ -34,6 +34,7 @@ use sheet::Model;
 use sheet::clearing::blank;
 use sheet::clearing::empty;
 use sheet::sizes::new_form;
+use sheet::sizes::page_bytes;
 use state::closing;
 use state::sound;
 
@@ -177,6 +178,19 @@ pub fn offer(
     }
     let f = feed(p, &piece[..0], page, line, staging, store, font);
     counted(f, taken)
+}
+
+// The bytes of the page that the next feeding takes, 0 where the state is unsound.
+pub fn page_due(p: Printer) -> usize
+    ensures { λ r. ⌜ r ≡ page-due (edition-of p) p ⌝ }
+    ensures { λ r. ⌜ r ≤ longest-page ⌝ }
+{
+    if !sound(p) {
+        return 0;
+    }
+    let model = p.model;
+    let form = p.form;
+    page_bytes(model, form)
 }
 
 // Closes a job.

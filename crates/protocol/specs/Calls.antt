@@ -9,6 +9,7 @@ use Rattle.sheet.specs.declared.Model.{Model}
 use Rattle.sheet.specs.Edition.{Edition, described}
 use Rattle.sheet.specs.Form.{lines-allowed, new-form, page-bytes, spacing-allowed}
 use Rattle.printer.specs.declared.Event.{Event}
+use Rattle.printer.specs.declared.Printer.{Printer}
 use Rattle.printer.specs.declared.Event.the-variants as event
 use Rattle.printer.specs.Bytes.{step}
 use Rattle.printer.specs.Machine.{Machine, limit, opened, shut, store-size, with-printer}
@@ -83,6 +84,10 @@ take-bytes e font [] m = stopped Done m
 take-bytes e font (b ∷ bs) m =
     let s : Step = step e font b m in
     cond (ltb (m .printer .job) limit) (heard (s .event) (s .machine) (take-bytes e font bs (s .machine))) (stopped JobFull m)
+
+-- the bytes of the page that the next feeding takes, 0 where the state is unsound
+unfoldable pub page-due : Edition → Printer → ℕ
+page-due e p = cond (sound e p) (page-bytes e (p .form)) 0
 
 -- 11 to 15 in order, then bytes
 unfoldable pub feed-fitted : Edition → List ℕ → List ℕ → Fit → Machine → Feeding

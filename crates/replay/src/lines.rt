@@ -13,8 +13,11 @@ use protocol::numbers::answer_number;
 use report::say;
 use report::say_note;
 use report::say_number;
+use sheet::Form;
+use sheet::Model;
 use sheet::Pitch;
 use sheet::Row;
+use sheet::counts::lines_through;
 use sheet::counts::rows_above;
 use state::tabs::tabbed;
 
@@ -121,14 +124,32 @@ fn say_tabs(tabs: TabSet) -> bool {
     say(b"TABS") && say_tabbed(tabs) && say(b"\n")
 }
 
+// Writes the line of the form and its margins as they are at the end; an LP2's are those of its opening.
+fn say_margins(model: Model, form: Form) -> bool {
+    let top = form.top;
+    let bottom = form.bottom;
+    match model {
+        Model::Lp2 => true,
+        Model::Dg6215 => {
+            say_number(b"MARGINS ", form.lines as u64)
+                && say_number(b" ", form.spacing as u64)
+                && say_number(b" ", lines_through(top) as u64)
+                && say_line(b" ", lines_through(bottom) as u64)
+        }
+    }
+}
+
 // Writes what a script leaves: how its job closes, the memory and the state.
 pub fn say_left(p: Printer, page: &[u8], line: &[u16], staging: &[u8], store: &[u8]) -> bool {
     let head = p.head;
     let style = p.style;
     let tabs = p.tabs;
+    let model = p.model;
+    let form = p.form;
     say_closing(close(p))
         && say_memory(page, line, staging, store)
         && say_head(head, style)
+        && say_margins(model, form)
         && say_line(b"JOB ", p.job as u64)
         && say_tabs(tabs)
 }

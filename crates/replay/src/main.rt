@@ -1,4 +1,4 @@
-// Replays scripts: each has a form, a font and the pieces of a job, and what comes of every call is written a line each.
+// Replays scripts: each has a model, a form, a font and the pieces of a job, and what comes of every call is written a line each.
 ghost use Prim.Native.Nat.{_+_, _*_, _≤_};
 ghost use mathlib.Core.Path.{_≡_};
 ghost use lib.ListN.{getD, length};
@@ -10,8 +10,8 @@ use report::say;
 use report::unread;
 use report::unwritten;
 use script::perform;
+use sheet::sizes::DG6215_LINE_NUMBERS;
 use sheet::sizes::LONGEST_PAGE;
-use sheet::sizes::LP2_LINE_NUMBERS;
 
 mod lines;
 mod script;
@@ -128,8 +128,8 @@ fn replay_whole(
     staging: &mut [u8],
     store: &mut [u8],
 ) -> Next
-    requires { ⌜ 2050 ≤ length (now script) ⌝ }
-    requires { ⌜ length (now page) ≡ longest-page ⌝ }
+    requires { ⌜ 2051 ≤ length (now script) ⌝ }
+    requires { ⌜ (length (now page) ≡ longest-page) × (length (now line) ≡ 6800) ⌝ }
 {
     let next = after_bytes(fill(script));
     if goes_on(next) {
@@ -147,9 +147,9 @@ fn replay_sized(
     staging: &mut [u8],
     store: &mut [u8],
 ) -> Next
-    requires { ⌜ length (now page) ≡ longest-page ⌝ }
+    requires { ⌜ (length (now page) ≡ longest-page) × (length (now line) ≡ 6800) ⌝ }
 {
-    if size < 2050 {
+    if size < 2051 {
         return refuse(size, script);
     }
     if size > script.len() {
@@ -167,7 +167,7 @@ fn replay_next(
     staging: &mut [u8],
     store: &mut [u8],
 ) -> Next
-    requires { ⌜ length (now page) ≡ longest-page ⌝ }
+    requires { ⌜ (length (now page) ≡ longest-page) × (length (now line) ≡ 6800) ⌝ }
 {
     let length = read_length();
     match length {
@@ -191,7 +191,7 @@ fn replay_all(
     staging: &mut [u8],
     store: &mut [u8],
 ) -> Next
-    requires { ⌜ length (now page) ≡ longest-page ⌝ }
+    requires { ⌜ (length (now page) ≡ longest-page) × (length (now line) ≡ 6800) ⌝ }
 {
     let mut number = 0;
     while number < u64::MAX {
@@ -218,7 +218,7 @@ fn finish(next: Next) {
 fn lend(
     script: &mut [u8; 262144],
     page: &mut [u8; LONGEST_PAGE],
-    line: &mut [u16; LP2_LINE_NUMBERS],
+    line: &mut [u16; DG6215_LINE_NUMBERS],
     staging: &mut [u8; STORE_BYTES],
     store: &mut [u8; STORE_BYTES],
 ) {
@@ -228,7 +228,7 @@ fn lend(
 fn main() {
     let mut script = [0u8; 262144];
     let mut page = [0u8; LONGEST_PAGE];
-    let mut line = [0u16; LP2_LINE_NUMBERS];
+    let mut line = [0u16; DG6215_LINE_NUMBERS];
     let mut staging = [0u8; STORE_BYTES];
     let mut store = [0u8; STORE_BYTES];
     lend(&mut script, &mut page, &mut line, &mut staging, &mut store);

@@ -11,13 +11,16 @@ use crate::sums::adler;
 use crate::wide;
 use job::calls::offer;
 use job::calls::open;
+use job::calls::page_due;
 use printer::Printer;
 use protocol::Answer;
 use protocol::Fed;
 use protocol::numbers::answer_number;
+use report::say;
 use report::say_number;
 use sheet::Model;
 use sheet::clearing::blank;
+use sheet::sizes::LP2_LINE_NUMBERS;
 use sheet::sizes::page_size;
 
 // A replay so far: the printer, how many forms are finished, how many bytes of the present piece are taken, whether the job goes on, and whether
@@ -47,15 +50,13 @@ fn with_new_piece(r: Replay) -> Replay {
     }
 }
 
-// Writes a finished form's number and sum, and lends a blank page.
-fn tell_form(number: u64, page: &mut [u8]) -> bool {
-    let sum = adler(page);
-    blank(page);
-    say_number(b"FORM ", number) && say_sum(b" ", sum)
+// Writes a finished form's number and the sum of its page.
+fn tell_form(number: u64, page: &[u8]) -> bool {
+    say_number(b"FORM ", number) && say_sum(b" ", adler(page))
 }
 
 // Writes what came of a feeding that took so many bytes. Any answer but a piece used up, a finished form or a note ends the job.
-fn tell_feeding(f: Fed, took: usize, forms: u64, page: &mut [u8]) -> Replay {
+fn tell_feeding(f: Fed, took: usize, forms: u64, page: &[u8]) -> Replay {
     let printer = f.printer;
     let taken = f.taken;
     let answer = f.answer;
@@ -103,6 +104,36 @@ fn feed_rest(
     tell_feeding(f, f.taken - r.taken, r.forms, page)
 }
 
+// Lends a blank page of the size that is due.
+fn lend_blank(p: Printer, page: &mut [u8])
+    requires { ⌜ length (now page) ≡ longest-page ⌝ }
+{
+    let due = page_due(p);
+    blank(&mut page[..due]);
+}
+
+// Feeds the rest of a piece on the page that is due, and lends a blank one where a form is finished.
+fn feed_due(
+    r: Replay,
+    piece: &[u8],
+    page: &mut [u8],
+    line: &mut [u16],
+    staging: &mut [u8],
+    store: &mut [u8],
+    font: &[u8],
+) -> Replay
+    requires { ⌜ length (now page) ≡ longest-page ⌝ }
+{
+    let p = r.printer;
+    let due = page_due(p);
+    let fed = feed_rest(r, piece, &mut page[..due], line, staging, store, font);
+    if fed.forms != r.forms {
+        let next = fed.printer;
+        lend_blank(next, page);
+    }
+    fed
+}
+
 // Feeds a piece: once, and then its rest until that is used up, or no byte of it is taken.
 fn feed_piece(
     before: Replay,
@@ -112,12 +143,14 @@ fn feed_piece(
     staging: &mut [u8],
     store: &mut [u8],
     font: &[u8],
-) -> Replay {
+) -> Replay
+    requires { ⌜ length (now page) ≡ longest-page ⌝ }
+{
     let start = with_new_piece(before);
-    let mut r = feed_rest(start, piece, page, line, staging, store, font);
+    let mut r = feed_due(start, piece, page, line, staging, store, font);
     while r.taken < piece.len() && goes_on(r) {
         let taken = r.taken;
-        r = feed_rest(r, piece, page, line, staging, store, font);
+        r = feed_due(r, piece, page, line, staging, store, font);
         if r.taken <= taken {
             return r;
         }
@@ -149,7 +182,9 @@ fn feed_pieces(
     staging: &mut [u8],
     store: &mut [u8],
     font: &[u8],
-) -> Replay {
+) -> Replay
+    requires { ⌜ length (now page) ≡ longest-page ⌝ }
+{
     let mut r = start;
     let mut at = 0;
     while pieces.len() - at >= 2 && goes_on(r) {
@@ -179,7 +214,9 @@ fn feed_job(
     staging: &mut [u8],
     store: &mut [u8],
     font: &[u8],
-) -> bool {
+) -> bool
+    requires { ⌜ length (now page) ≡ longest-page ⌝ }
+{
     let start = Replay {
         printer,
         forms: 0,
@@ -188,11 +225,14 @@ fn feed_job(
         written: true,
     };
     let r = feed_pieces(start, pieces, page, line, staging, store, font);
-    tell_left(r, page, line, staging, store)
+    let last = r.printer;
+    let due = page_due(last);
+    tell_left(r, &page[..due], line, staging, store)
 }
 
 // Opens the job of a script, and feeds it unless the opening is refused. Answers whether standard output took every line.
 fn open_job(
+    model: Model,
     lines: usize,
     spacing: usize,
     pieces: &[u8],
@@ -201,8 +241,20 @@ fn open_job(
     staging: &mut [u8],
     store: &mut [u8],
     font: &[u8],
-) -> bool {
-    let opened = open(Model::Lp2, lines, spacing, page, line, staging, store, font);
+) -> bool
+    requires { ⌜ length (now page) ≡ longest-page ⌝ }
+{
+    let size = page_size(model, lines, spacing);
+    let opened = open(
+        model,
+        lines,
+        spacing,
+        &mut page[..size],
+        line,
+        staging,
+        store,
+        font,
+    );
     let answer = opened.answer;
     let number = answer_number(answer);
     if !say_line(b"OPEN ", number) {
@@ -215,8 +267,9 @@ fn open_job(
     feed_job(printer, pieces, page, line, staging, store, font)
 }
 
-// Replays a script, and answers whether standard output took every line.
-pub fn perform(
+// Replays what a script has after its model: the form, the font and the pieces.
+fn replay_form(
+    model: Model,
     script: &[u8],
     page: &mut [u8],
     line: &mut [u16],
@@ -228,15 +281,45 @@ pub fn perform(
 {
     let lines = wide(script[0]);
     let spacing = wide(script[1]);
-    let size = page_size(Model::Lp2, lines, spacing);
+    let pieces = &script[2050..];
+    let font = &script[2..2050];
     open_job(
+        model,
         lines,
         spacing,
-        &script[2050..],
-        &mut page[..size],
+        pieces,
+        page,
         line,
         staging,
         store,
-        &script[2..2050],
+        font,
     )
+}
+
+// Replays a script, or refuses it where its first byte is no model's. Answers whether standard output took every line.
+pub fn perform(
+    script: &[u8],
+    page: &mut [u8],
+    line: &mut [u16],
+    staging: &mut [u8],
+    store: &mut [u8],
+) -> bool
+    requires { ⌜ 2051 ≤ length (now script) ⌝ }
+    requires { ⌜ length (now page) ≡ longest-page ⌝ }
+    requires { ⌜ length (now line) ≡ 6800 ⌝ }
+{
+    let model = script[0];
+    let rest = &script[1..];
+    match model {
+        0 => replay_form(
+            Model::Lp2,
+            rest,
+            page,
+            &mut line[..LP2_LINE_NUMBERS],
+            staging,
+            store,
+        ),
+        1 => replay_form(Model::Dg6215, rest, page, line, staging, store),
+        _ => say(b"REFUSED SCRIPT\n"),
+    }
 }

@@ -111,6 +111,10 @@ in-range ws =
 unfoldable pub is-state : List ℕ → Bool
 is-state ws = eqb (length ws) state-size && in-range ws
 
+-- a word is a model's number
+unfoldable pub is-model : ℕ → Bool
+is-model w = leb w 1
+
 unfoldable pub model-of : ℕ → Model
 model-of w = cond (eqb w 1) Dg6215 Lp2
 

@@ -6,7 +6,7 @@ ghost use Prim.Native.Nat.{_+_, _≤_};
 ghost use lib.ListN.{length, take};
 ghost use Rattle.printer.specs.Machine.{limit};
 ghost use Rattle.printer.specs.declared.Pending.the-variants.{Bracket};
-ghost use Rattle.words.specs.Words.{Ranged, at-most, form-of, head-of, in-range, is-state, model-of, model-word, number-limit, part, pending-of};
+ghost use Rattle.words.specs.Words.{Ranged, at-most, form-of, head-of, in-range, is-model, is-state, model-of, model-word, number-limit, part, pending-of};
 ghost use Rattle.words.specs.Words.{pending-words, pitch-of, pitch-word, setting-of, setting-word, state-of, state-size, state-words, style-of, truth};
 use printer::Head;
 use printer::JOB_LIMIT;
@@ -243,7 +243,14 @@ fn byte(word: u64) -> u8
     word as u8
 }
 
-fn model_of(word: u64) -> Model
+// Whether a word is a model's number.
+pub fn is_model(word: u64) -> bool
+    ensures { λ r. ⌜ r ≡ is-model word ⌝ }
+{
+    word <= 1
+}
+
+pub fn model_of(word: u64) -> Model
     ensures { λ r. ⌜ r ≡ model-of word ⌝ }
 {
     if word == 1 { Model::Dg6215 } else { Model::Lp2 }

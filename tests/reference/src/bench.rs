@@ -2,6 +2,7 @@
 
 use crate::calls::{close, feed, open, Answer, Closing, Fed};
 use crate::lent::{Lent, FONT};
+use crate::model::Model;
 use crate::random::Random;
 use crate::sheet::Form;
 use crate::state::State;
@@ -12,13 +13,22 @@ pub struct Bench {
 }
 
 impl Bench {
-    pub fn open(lines: u8, spacing: u8) -> Bench {
-        Bench::with_font(lines, spacing, vec![0; FONT])
+    pub fn open(model: Model, lines: u8, spacing: u8) -> Bench {
+        Bench::with_font(model, lines, spacing, vec![0; FONT])
     }
 
-    pub fn with_font(lines: u8, spacing: u8, font: Vec<u8>) -> Bench {
-        let mut lent = Lent::new(Form { lines, spacing }.page_bytes(), font);
-        let (number, state) = open(lines, spacing, &mut lent);
+    pub fn lp2(lines: u8, spacing: u8) -> Bench {
+        Bench::open(Model::Lp2, lines, spacing)
+    }
+
+    pub fn m6215(lines: u8, spacing: u8) -> Bench {
+        Bench::open(Model::M6215, lines, spacing)
+    }
+
+    pub fn with_font(model: Model, lines: u8, spacing: u8, font: Vec<u8>) -> Bench {
+        let form = Form::opened(model, lines, spacing);
+        let mut lent = Lent::new(model, form.page_bytes(), font);
+        let (number, state) = open(model, lines, spacing, &mut lent);
         assert_eq!(number, 0);
         Bench { state, lent }
     }
@@ -28,7 +38,8 @@ impl Bench {
     }
 
     /// Feeds a piece and its rests. Gives what a caller keeps: for each note
-    /// its number and place, for each form 1 and the finishing byte's place.
+    /// its number and place, for each form 1 and the finishing byte's place. A
+    /// blank page of the size that is due follows each form.
     pub fn run(&mut self, piece: &[u8]) -> Vec<(u8, u32)> {
         let mut kept = Vec::new();
         let mut rest = piece;
@@ -43,7 +54,7 @@ impl Bench {
                 Answer::Note(fault, place) => kept.push((fault.number(), place)),
                 Answer::FormFinished => {
                     kept.push((1, self.state.job - 1));
-                    self.lent.page.fill(0);
+                    self.lent.lend_page(self.state.form);
                 }
                 other => panic!("{other:?}"),
             }
@@ -54,14 +65,28 @@ impl Bench {
         close(&self.state)
     }
 
-    /// Is the dot black at a row and a grid position?
-    pub fn dot(&self, row: usize, grid: usize) -> bool {
-        dot(&self.lent.page, row, grid)
+    /// The black dots, each a row and a grid position.
+    pub fn black(&self) -> Vec<(usize, usize)> {
+        let model = self.state.form.model;
+        let rows = self.lent.page.len() / model.row_bytes();
+        let dots = (0..rows).flat_map(|row| (0..positions(model)).map(move |grid| (row, grid)));
+        dots.filter(|&(row, grid)| dot(model, &self.lent.page, row, grid))
+            .collect()
     }
 }
 
-pub fn dot(page: &[u8], row: usize, grid: usize) -> bool {
-    page[row * 825 + grid / 8] >> (7 - grid % 8) & 1 == 1
+/// Grid positions in a row, by the documents.
+pub fn positions(model: Model) -> usize {
+    match model {
+        Model::Lp2 => 6_600,
+        Model::M6215 => 6_800,
+    }
+}
+
+/// Is the dot black at a row and a grid position?
+pub fn dot(model: Model, page: &[u8], row: usize, grid: usize) -> bool {
+    let dot = positions(model) * row + grid;
+    page[dot / 8] >> (7 - dot % 8) & 1 == 1
 }
 
 /// A page with some dots, with many, or with all but some.

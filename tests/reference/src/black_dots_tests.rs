@@ -4,8 +4,9 @@ use crate::bench::{dotted_page, Bench};
 use crate::calls::Answer;
 use crate::generate::generate;
 use crate::lent::FONT;
+use crate::model::Model;
 use crate::random::Random;
-use crate::replay::pieces;
+use crate::replay::{pieces, HEADER};
 use crate::sheet::Form;
 
 /// The page of one form.
@@ -46,29 +47,27 @@ fn has_all(page: &[u8], other: &[u8]) -> bool {
 
 /// The bench for a script, unless the script or its opening is refused.
 fn bench(script: &[u8]) -> Option<Bench> {
-    let (&[lines, spacing], rest) = script.split_first_chunk()?;
-    let font = rest.get(..FONT)?.to_vec();
-    let form = Form { lines, spacing };
-    let opens = form.lines_allowed() && form.spacing_allowed();
-    opens.then(|| Bench::with_font(lines, spacing, font))
+    let (&[model, lines, spacing], rest) = script.split_first_chunk()?;
+    let (model, font) = (Model::of_number(model)?, rest.get(..FONT)?.to_vec());
+    let opens = Form::opened(model, lines, spacing).is_allowed();
+    opens.then(|| Bench::with_font(model, lines, spacing, font))
 }
 
 /// Feeds so many generated scripts, and lends each form a page of its own.
 /// Gives the forms finished, and the feedings that added dots to others.
-fn feed_watched(seeds: u64, mut lend: impl FnMut(usize) -> Vec<u8>) -> (u32, u32) {
+fn feed_watched(model: Model, seeds: u64, mut lend: impl FnMut(usize) -> Vec<u8>) -> (u32, u32) {
     let (mut forms, mut additions) = (0, 0);
     for seed in 0..seeds {
         let mut script = Vec::new();
-        generate(seed, 1, &mut script).unwrap();
+        generate(seed, 1, &[model], &mut script).unwrap();
         // Four bytes of length come first.
         let script = &script[4..];
         let Some(mut bench) = bench(script) else {
             continue;
         };
-        let bytes = bench.lent.page.len();
-        bench.lent.page = lend(bytes);
+        bench.lent.page = lend(bench.state.form.page_bytes());
         let mut watched = Watched::new(&bench.lent.page);
-        for mut rest in pieces(&script[2 + FONT..]) {
+        for mut rest in pieces(&script[HEADER + FONT..]) {
             loop {
                 let fed = bench.feed(rest);
                 rest = &rest[fed.taken..];
@@ -78,7 +77,7 @@ fn feed_watched(seeds: u64, mut lend: impl FnMut(usize) -> Vec<u8>) -> (u32, u32
                     Answer::Note(..) => {}
                     Answer::FormFinished => {
                         assert!(has_all(&bench.lent.page, &watched.black));
-                        bench.lent.page = lend(bytes);
+                        bench.lent.page = lend(bench.state.form.page_bytes());
                         watched = Watched::new(&bench.lent.page);
                         forms += 1;
                     }
@@ -93,13 +92,17 @@ fn feed_watched(seeds: u64, mut lend: impl FnMut(usize) -> Vec<u8>) -> (u32, u32
 
 #[test]
 fn no_feeding_turns_a_black_dot_white() {
-    let (forms, additions) = feed_watched(400, |bytes| vec![0; bytes]);
-    assert!(forms >= 1_000 && additions >= 1_000);
+    for model in Model::BOTH {
+        let (forms, additions) = feed_watched(model, 400, |bytes| vec![0; bytes]);
+        assert!(forms >= 1_000 && additions >= 1_000);
+    }
 }
 
 #[test]
 fn no_feeding_turns_a_dot_white_that_was_black_when_lent() {
     let mut random = Random::new(114);
-    let (forms, additions) = feed_watched(200, |bytes| dotted_page(&mut random, bytes));
-    assert!(forms >= 1_000 && additions >= 1_000);
+    for model in Model::BOTH {
+        let (forms, additions) = feed_watched(model, 200, |bytes| dotted_page(&mut random, bytes));
+        assert!(forms >= 1_000 && additions >= 1_000);
+    }
 }

@@ -1,6 +1,7 @@
 //! Document 01, "What a call gives back": opening, feeding, closing.
 
 use crate::lent::Lent;
+use crate::model::Model;
 use crate::outcome::{Fault, Outcome};
 use crate::sheet::Form;
 use crate::state::State;
@@ -47,9 +48,10 @@ pub enum Closing {
     Unsound,
 }
 
-/// Checks 18, 19, 11 to 15. A refusal writes nothing and gives the shut state.
-pub fn open(lines: u8, spacing: u8, lent: &mut Lent) -> (u8, State) {
-    let form = Form { lines, spacing };
+/// Checks 18, 19, 11 to 15. A refusal writes nothing and gives the model's shut
+/// state.
+pub fn open(model: Model, lines: u8, spacing: u8, lent: &mut Lent) -> (u8, State) {
+    let form = Form::opened(model, lines, spacing);
     let refusal = if !form.lines_allowed() {
         Some(18)
     } else if !form.spacing_allowed() {
@@ -58,7 +60,7 @@ pub fn open(lines: u8, spacing: u8, lent: &mut Lent) -> (u8, State) {
         lent.refusal(form)
     };
     if let Some(number) = refusal {
-        return (number, State::shut());
+        return (number, State::shut(model));
     }
     lent.zero();
     (0, State::opened(form))

@@ -1,7 +1,9 @@
 //! Document 01, "Bytes outside plot mode": the table after ESC.
 
+use crate::bracket::{self, Bracket};
 use crate::download::{self, Download};
 use crate::lent::Lent;
+use crate::model::Model;
 use crate::outcome::{Fault, Outcome};
 use crate::sheet::{Line, Pitch};
 use crate::state::{Command, Due, State};
@@ -16,6 +18,7 @@ pub fn take(state: &mut State, lent: &mut Lent, command: Command, byte: u8) -> O
         Due::SelectFirst => wait(state, place, Due::SelectSecond(byte)),
         Due::SelectSecond(first) => select(state, place, [first, byte]),
         Due::Download(download) => download::take(state, lent, place, download, byte),
+        Due::Bracket(bracket) => bracket::take(state, place, bracket, byte),
     }
 }
 
@@ -51,13 +54,17 @@ fn letter(state: &mut State, place: u32, byte: u8) -> Outcome {
         b'Y' => return wait(state, place, Due::Download(Download::begun())),
         b'N' => return wait(state, place, Due::SelectFirst),
         b'O' => state.downloaded = false,
+        b'[' if state.form.model == Model::M6215 => {
+            return wait(state, place, Due::Bracket(Bracket::begun()));
+        }
         _ => return Outcome::Note(Fault::UnknownCommand, place),
     }
     Outcome::Quiet
 }
 
+/// ESC > and ESC ?: on an LP2 for fresh lines only, on a 6215 anywhere.
 fn set_pitch(state: &mut State, place: u32, pitch: Pitch) -> Outcome {
-    if !state.fresh {
+    if state.form.model == Model::Lp2 && !state.fresh {
         return Outcome::Note(Fault::PitchInLine, place);
     }
     state.pitch = pitch;
@@ -87,7 +94,7 @@ fn tab_item(state: &mut State, byte: u8) -> Outcome {
     Outcome::Quiet
 }
 
-/// ESC c 00: the line is dropped unstruck; row, page and staging stay.
+/// ESC c 00: the line is dropped unstruck; row, page, staging and form stay.
 fn reset(state: &mut State, lent: &mut Lent, place: u32, byte: u8) -> Outcome {
     state.started = None;
     if byte != 0x00 {

@@ -4,13 +4,30 @@
 use crate::bench::Bench;
 use crate::calls::{close, feed, open, Answer, Closing};
 use crate::lent::Lent;
+use crate::model::Model;
 use crate::replay::replay;
 use crate::sheet::{Line, Pitch, Row};
 use crate::state::{Command, Due, State};
 
-/// Lent memory for 5 lines at 6 an inch, its stores filled.
-fn filled() -> Lent {
-    let mut lent = Lent::new(5 * 12 * 825, vec![0x11; 2_048]);
+/// Lent memory for 5 lines at 6 an inch, its stores blank: rows of 825 and 850
+/// bytes, line stores of 2,200 and 6,800 numbers.
+fn blank(model: Model) -> Lent {
+    let (row_bytes, numbers) = match model {
+        Model::Lp2 => (825, 2_200),
+        Model::M6215 => (850, 6_800),
+    };
+    Lent {
+        page: vec![0; 5 * 12 * row_bytes],
+        line: vec![0; numbers],
+        staging: vec![0; 2_048],
+        store: vec![0; 2_048],
+        font: vec![0x11; 2_048],
+    }
+}
+
+/// The same, its stores filled.
+fn filled(model: Model) -> Lent {
+    let mut lent = blank(model);
     lent.page.fill(1);
     lent.line.fill(2);
     lent.staging.fill(3);
@@ -19,8 +36,8 @@ fn filled() -> Lent {
 }
 
 /// Makes one store after the other too long or too short, the last one first.
-fn misfits() -> Vec<(u8, Lent)> {
-    let mut lent = filled();
+fn misfits(model: Model) -> Vec<(u8, Lent)> {
+    let mut lent = filled(model);
     let mut made = Vec::new();
     lent.font.pop();
     made.push((15, lent.clone()));
@@ -37,34 +54,47 @@ fn misfits() -> Vec<(u8, Lent)> {
 
 #[test]
 fn opening_refuses_in_order_and_writes_nothing() {
-    for (number, lent) in misfits() {
-        for (lines, spacing, expected) in [(5, 6, number), (0, 7, 18), (100, 6, 18), (5, 7, 19)] {
-            let mut lent_on = lent.clone();
-            let (answer, state) = open(lines, spacing, &mut lent_on);
-            assert_eq!((answer, state), (expected, State::shut()));
-            assert!(lent_on == lent);
+    for (model, past) in [(Model::Lp2, 100), (Model::M6215, 113)] {
+        for (number, lent) in misfits(model) {
+            for (lines, spacing, expected) in [
+                (5, 6, number),
+                (0, 7, 18),
+                (past, 6, 18),
+                (255, 6, 18),
+                (5, 7, 19),
+            ] {
+                let mut lent_on = lent.clone();
+                let (answer, state) = open(model, lines, spacing, &mut lent_on);
+                assert_eq!((answer, state), (expected, State::shut(model)));
+                assert!(lent_on == lent);
+            }
         }
     }
 }
 
 #[test]
 fn opening_zeroes_all_but_the_font() {
-    let mut lent = filled();
-    assert_eq!(open(5, 6, &mut lent).0, 0);
-    assert!(lent == Lent::new(5 * 12 * 825, vec![0x11; 2_048]));
+    for model in Model::BOTH {
+        let mut lent = filled(model);
+        assert_eq!(open(model, 5, 6, &mut lent).0, 0);
+        assert!(lent == blank(model));
+    }
 }
 
 #[test]
 fn feeding_refuses_in_order_and_writes_nothing() {
-    for (number, lent) in misfits() {
-        for (state, expected) in [(Bench::open(5, 6).state, number), (State::shut(), 10)] {
-            let (mut state_on, mut lent_on) = (state.clone(), lent.clone());
-            for piece in [&b"A\n"[..], &[]] {
-                let fed = feed(&mut state_on, &mut lent_on, piece);
-                assert_eq!((fed.answer.number(), fed.taken), (expected, 0));
+    for model in Model::BOTH {
+        for (number, lent) in misfits(model) {
+            let opened = Bench::open(model, 5, 6).state;
+            for (state, expected) in [(opened, number), (State::shut(model), 10)] {
+                let (mut state_on, mut lent_on) = (state.clone(), lent.clone());
+                for piece in [&b"A\n"[..], &[]] {
+                    let fed = feed(&mut state_on, &mut lent_on, piece);
+                    assert_eq!((fed.answer.number(), fed.taken), (expected, 0));
+                }
+                assert_eq!(state_on, state);
+                assert!(lent_on == lent);
             }
-            assert_eq!(state_on, state);
-            assert!(lent_on == lent);
         }
     }
 }
@@ -76,8 +106,8 @@ fn unsound_states() {
         |state| state.form.spacing = 7,
         |state| state.row = Row(52),
         |state| state.row = Row(u32::MAX),
-        |state| (state.fresh, state.column) = (false, 1_321),
-        |state| state.column = 1,
+        |state| (state.fresh, state.position) = (false, 6_801),
+        |state| state.position = 1,
         |state| state.plot_line = true,
         |state| (state.fresh, state.plotting) = (false, true),
         |state| _ = state.tabs.insert(Line(6)),
@@ -97,24 +127,43 @@ fn unsound_states() {
         },
     ];
     for (index, spoil) in spoilers.into_iter().enumerate() {
-        let mut state = Bench::open(5, 6).state;
+        for model in Model::BOTH {
+            let mut state = Bench::open(model, 5, 6).state;
+            assert!(state.is_sound());
+            spoil(&mut state);
+            assert!(!state.is_sound(), "spoiler {index}");
+            assert_eq!(close(&state), Closing::Unsound);
+        }
+    }
+}
+
+/// The last position is W, by model and pitch.
+#[test]
+fn positions_to_the_line_s_end_are_sound() {
+    for (model, pitch, width) in [
+        (Model::Lp2, Pitch::Normal, 1_320),
+        (Model::Lp2, Pitch::Compressed, 2_200),
+        (Model::M6215, Pitch::Normal, 6_800),
+        (Model::M6215, Pitch::Compressed, 6_800),
+    ] {
+        let mut state = Bench::open(model, 5, 6).state;
+        (state.fresh, state.pitch, state.position) = (false, pitch, width);
         assert!(state.is_sound());
-        spoil(&mut state);
-        assert!(!state.is_sound(), "spoiler {index}");
-        assert_eq!(close(&state), Closing::Unsound);
+        state.position += 1;
+        assert!(!state.is_sound());
     }
 }
 
 #[test]
 fn job_limit() {
-    let mut bench = Bench::open(5, 6);
+    let mut bench = Bench::lp2(5, 6);
     bench.state.job = u32::MAX - 2;
     let fed = bench.feed(b"ABC");
     assert_eq!((fed.answer, fed.taken), (Answer::JobFull, 2));
     assert_eq!(bench.state.job, u32::MAX);
     assert_eq!(bench.feed(&[]).answer, Answer::UsedUp);
     // The last byte that fits finishes a form: that is the answer, then 3.
-    let mut bench = Bench::open(5, 6);
+    let mut bench = Bench::lp2(5, 6);
     bench.state.job = u32::MAX - 1;
     assert_eq!(bench.feed(b"\x0CA").answer, Answer::FormFinished);
     let fed = bench.feed(b"A");
@@ -133,39 +182,40 @@ fn closings() {
         (b"\x1BY\x00\x00\x00\x00", Closing::CommandUnfinished(0)),
         (b"A\x1Bc\x00", Closing::Clean),
     ] {
-        let mut bench = Bench::open(5, 6);
-        assert_eq!(bench.run(job), []);
-        assert_eq!(bench.close(), closing);
+        for model in Model::BOTH {
+            let mut bench = Bench::open(model, 5, 6);
+            assert_eq!(bench.run(job), []);
+            assert_eq!(bench.close(), closing);
+        }
     }
 }
 
 /// "!" with wire 1 in column 0 and wire 9 in column 6.
-fn font_of_one_glyph() -> Vec<u8> {
+pub fn font_of_one_glyph() -> Vec<u8> {
     let mut font = vec![0; 2_048];
     let glyph = [0, 0, 1, 0, 0, 0, 0, 0, 0, 0, 0, 0, 0, 0, 0, 1];
     font[16 * 0x21..16 * 0x22].copy_from_slice(&glyph);
     font
 }
 
+/// Lines of one pitch have the same dots on both models.
 #[test]
 fn struck_dots() {
-    let mut bench = Bench::with_font(5, 6, font_of_one_glyph());
-    assert_eq!(bench.run(b"!!\n"), []);
-    let black = |bench: &Bench| -> Vec<(usize, usize)> {
-        let dots = (0..60).flat_map(|row| (0..6_600).map(move |grid| (row, grid)));
-        dots.filter(|&(row, grid)| bench.dot(row, grid)).collect()
-    };
-    assert_eq!(black(&bench), [(0, 0), (0, 50), (8, 30), (8, 80)]);
-    let mut bench = Bench::with_font(5, 6, font_of_one_glyph());
-    assert_eq!(bench.run(b"\x1B>\x1B<\x1Ba!\r"), []);
-    assert_eq!(
-        black(&bench),
-        [0, 3]
-            .map(|grid| (0, grid))
-            .into_iter()
-            .chain([0, 6, 12, 18, 24, 30, 36, 39, 42, 48, 54].map(|grid| (8, grid)))
-            .collect::<Vec<_>>()
-    );
+    for model in Model::BOTH {
+        let mut bench = Bench::with_font(model, 5, 6, font_of_one_glyph());
+        assert_eq!(bench.run(b"!!\n"), []);
+        assert_eq!(bench.black(), [(0, 0), (0, 50), (8, 30), (8, 80)]);
+        let mut bench = Bench::with_font(model, 5, 6, font_of_one_glyph());
+        assert_eq!(bench.run(b"\x1B>\x1B<\x1Ba!\r"), []);
+        assert_eq!(
+            bench.black(),
+            [0, 3]
+                .map(|grid| (0, grid))
+                .into_iter()
+                .chain([0, 6, 12, 18, 24, 30, 36, 39, 42, 48, 54].map(|grid| (8, grid)))
+                .collect::<Vec<_>>()
+        );
+    }
 }
 
 #[test]
@@ -187,7 +237,7 @@ fn places_of_notes() {
             vec![(46, 4), (46, 6), (46, 7), (46, 9), (46, 11)],
         ),
     ] {
-        assert_eq!(Bench::open(5, 6).run(&job), kept);
+        assert_eq!(Bench::lp2(5, 6).run(&job), kept);
     }
 }
 
@@ -220,13 +270,15 @@ fn download_checks_in_order() {
         (download(2_064, 2_048, &[0; 2_064], 0), vec![(46, 0)]),
         (download(2_048, 2_048, &[0; 2_048], 0), vec![]),
     ] {
-        assert_eq!(Bench::open(5, 6).run(&job), kept);
+        for model in Model::BOTH {
+            assert_eq!(Bench::open(model, 5, 6).run(&job), kept);
+        }
     }
 }
 
 #[test]
 fn vertical_tabs() {
-    let mut bench = Bench::open(5, 8);
+    let mut bench = Bench::lp2(5, 8);
     assert_eq!(bench.run(b"\x1BF\x02\x04\x00\x0B"), []);
     assert_eq!(bench.state.row, Row(9));
     assert_eq!(bench.run(b"\x0B"), []);
@@ -237,39 +289,71 @@ fn vertical_tabs() {
 
 #[test]
 fn reset_keeps_the_row() {
-    let mut bench = Bench::open(5, 6);
+    let mut bench = Bench::lp2(5, 6);
     assert_eq!(
         bench.run(b"\n\x1B5\x1B>\x1B<\x1Ba\x1BN\x04\x00A\x1Bc\x00"),
         []
     );
-    let mut expected = Bench::open(5, 6).state;
+    let mut expected = Bench::lp2(5, 6).state;
     (expected.row, expected.job) = (Row(12), bench.state.job);
     assert_eq!(bench.state, expected);
     assert_eq!(bench.state.pitch, Pitch::Normal);
     assert_eq!(bench.lent.line, vec![0; 2_200]);
 }
 
+/// Adds a script, preceded by what is given as its length.
+fn add_script(input: &mut Vec<u8>, length: u32, parts: &[&[u8]]) {
+    input.extend(length.to_be_bytes());
+    input.extend(parts.concat());
+}
+
+fn replayed(input: &[u8]) -> String {
+    let mut output = Vec::new();
+    replay(input, &mut output).unwrap();
+    String::from_utf8(output).unwrap()
+}
+
+const BLANK_FONT: &[u8] = &[0; 2_048];
+
 /// Scripts of a wrong length, a refused opening, and an input cut short.
 #[test]
 fn replayed_scripts() {
     let mut input = Vec::new();
-    let mut script = |bytes: &[u8], length: u32| {
-        input.extend(length.to_be_bytes());
-        input.extend(bytes);
-    };
-    script(&[5; 2_049], 2_049);
-    let mut good = vec![1, 8];
-    good.extend(vec![0; 2_048]);
-    script(&[&[0], &good[1..]].concat(), 2_050);
-    good.extend(b"\x00\x00\x00\x03A\x08\n\x00\x09\x1B5\x1B");
-    script(&good, good.len() as u32);
-    script(&[0; 100], 2_050);
-    let mut output = Vec::new();
-    replay(&input[..], &mut output).unwrap();
+    add_script(&mut input, 2_050, &[&[5; 2_050]]);
+    add_script(&mut input, 2_051, &[&[0, 0, 8], BLANK_FONT]);
+    let pieces = b"\x00\x00\x00\x03A\x08\n\x00\x09\x1B5\x1B";
+    add_script(&mut input, 2_051 + 12, &[&[0, 1, 8], BLANK_FONT, pieces]);
+    add_script(&mut input, 2_051, &[&[0; 100]]);
     // 1 × 9 × 825 zero bytes: a = 1, b = 7,425.
     let expected = "SCRIPT 1\nREFUSED SCRIPT\nSCRIPT 2\nOPEN 18\nSCRIPT 3\nOPEN 0\n\
         FED 0 0\nFED 2 2 46 1\nFED 1 1\nFORM 1 1d010001\nFED 0 3\nCLOSE OPEN 5\n\
         PAGE 1d010001\nLINE 11300001\nSTAGING 08000001\nSTORE 08000001\n\
         HEAD 0 0 0 0 0 0 1 0 0\nJOB 6\nTABS 1\nSCRIPT 4\n";
-    assert_eq!(String::from_utf8(output).unwrap(), expected);
+    assert_eq!(replayed(&input), expected);
+}
+
+/// A 6215's script: a form finished, then one of another size; and scripts of
+/// no model, refused once they are read.
+#[test]
+fn replayed_scripts_of_the_6215() {
+    let mut input = Vec::new();
+    add_script(&mut input, 2_051, &[&[2, 1, 8], BLANK_FONT]);
+    add_script(&mut input, 2_051, &[&[255, 0, 7], BLANK_FONT]);
+    add_script(&mut input, 2_051, &[&[1, 113, 8], BLANK_FONT]);
+    add_script(&mut input, 2_051, &[&[1, 112, 7], BLANK_FONT]);
+    // A form of 2 lines with N2 = 2 from the first piece, whose rest is a
+    // condensed A; then a spacing out of place.
+    let pieces = b"\x00\x0C\x1B[02;2;2r\x1B>A\x00\x04\x1B[1z";
+    add_script(&mut input, 2_051 + 20, &[&[1, 1, 8], BLANK_FONT, pieces]);
+    add_script(&mut input, 2_050, &[&[1; 2_050]]);
+    add_script(&mut input, 2_051, &[&[9; 100]]);
+    // Zero bytes: a = 1; b = 9 × 850 = 7,650 = 1DE2, then 2 × 9 × 850 = 15,300 =
+    // 3BC4; of the line store 13,600 = 3520.
+    let expected = "SCRIPT 1\nREFUSED SCRIPT\nSCRIPT 2\nREFUSED SCRIPT\n\
+        SCRIPT 3\nOPEN 18\nSCRIPT 4\nOPEN 19\nSCRIPT 5\nOPEN 0\n\
+        FED 1 9\nFORM 1 1de20001\nFED 0 3\nFED 2 4 43 12\nCLOSE LINE\n\
+        PAGE 3bc40001\nLINE 35200001\nSTAGING 08000001\nSTORE 08000001\n\
+        HEAD 9 30 1 0 0 0 0 0 0\nMARGINS 2 8 2 2\nJOB 16\nTABS\n\
+        SCRIPT 6\nREFUSED SCRIPT\nSCRIPT 7\n";
+    assert_eq!(replayed(&input), expected);
 }

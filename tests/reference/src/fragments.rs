@@ -3,26 +3,35 @@
 
 use crate::download_maker::download;
 use crate::job_maker::JobMaker;
+use crate::model::Model;
+use crate::sheet::Pitch;
 
 /// Adds its bytes to the job.
 type Fragment = fn(&mut JobMaker);
 
-/// Every kind of fragment, with how often it comes.
-pub const FRAGMENTS: [(usize, Fragment); 14] = [
-    (14, JobMaker::text),
-    (4, JobMaker::overlong_text),
-    (10, JobMaker::moves),
-    (6, JobMaker::features),
-    (5, JobMaker::pitch),
-    (10, JobMaker::tabs),
-    (9, JobMaker::plot),
-    (1, JobMaker::overlong_plot),
-    (5, JobMaker::plot_strip),
-    (8, JobMaker::download_and_use),
-    (3, JobMaker::selection),
-    (3, JobMaker::reset),
-    (5, JobMaker::wrong_bytes),
-    (2, JobMaker::noise),
+/// Every kind of fragment, with how often it comes on an LP2 and on a 6215.
+pub const FRAGMENTS: [([usize; 2], Fragment); 21] = [
+    ([14, 12], JobMaker::text),
+    ([4, 3], JobMaker::overlong_text),
+    ([10, 9], JobMaker::moves),
+    ([6, 5], JobMaker::features),
+    ([5, 5], JobMaker::pitch),
+    ([10, 8], JobMaker::tabs),
+    ([9, 8], JobMaker::plot),
+    ([1, 1], JobMaker::overlong_plot),
+    ([5, 4], JobMaker::plot_strip),
+    ([8, 6], JobMaker::download_and_use),
+    ([3, 3], JobMaker::selection),
+    ([3, 3], JobMaker::reset),
+    ([5, 4], JobMaker::wrong_bytes),
+    ([2, 2], JobMaker::noise),
+    ([2, 2], JobMaker::any_bracket),
+    ([0, 6], JobMaker::styled_text),
+    ([0, 9], JobMaker::form_change),
+    ([0, 5], JobMaker::spacing_change),
+    ([0, 4], JobMaker::tabs_and_margins),
+    ([0, 4], JobMaker::wrong_bracket),
+    ([0, 3], JobMaker::mixed_line),
 ];
 
 impl JobMaker {
@@ -36,7 +45,7 @@ impl JobMaker {
         }
     }
 
-    fn characters(&mut self, count: usize) {
+    pub fn characters(&mut self, count: usize) {
         for _ in 0..count {
             let character = self.character();
             self.put(&[character]);
@@ -65,11 +74,10 @@ impl JobMaker {
         if self.random.chance(80) {
             self.put(b"\r");
         }
-        let pitch = self.random.pick(b">?");
+        let letter = self.random.pick(b">?");
         let cell = self.random.pick(b"<=");
-        self.put(&[0x1B, pitch, 0x1B, cell]);
-        let columns = if pitch == b'>' { 2_200 } else { 1_320 };
-        let cells = columns / if cell == b'<' { 20 } else { 10 };
+        self.put(&[0x1B, letter, 0x1B, cell]);
+        let cells = self.columns(letter) / if cell == b'<' { 20 } else { 10 };
         let count = self.random.number(cells - 3..=cells + 3);
         self.characters(count);
         for _ in 0..self.random.below(4) {
@@ -82,9 +90,22 @@ impl JobMaker {
         }
     }
 
+    /// The columns of a line after ESC with this letter.
+    fn columns(&self, letter: u8) -> usize {
+        let (model, pitch) = match letter {
+            b'>' => (self.form.model, Pitch::Compressed),
+            _ => (self.form.model, Pitch::Normal),
+        };
+        model.width(pitch) / model.step(pitch)
+    }
+
     fn features(&mut self) {
+        let letters: &[u8] = match self.form.model {
+            Model::Lp2 => b"<<=ababeO",
+            Model::M6215 => b"<<=ababeO>?",
+        };
         for _ in 0..self.random.number(1..=3) {
-            let letter = self.random.pick(b"<<=ababeO");
+            let letter = self.random.pick(letters);
             self.put(&[0x1B, letter]);
         }
     }
@@ -105,8 +126,8 @@ impl JobMaker {
     // Moves and tabs.
 
     /// Form feeds are the rarer the longer the form.
-    fn terminator(&mut self) {
-        let feeds = 30 / (2 + usize::from(self.lines));
+    pub fn terminator(&mut self) {
+        let feeds = 30 / (2 + usize::from(self.form.lines));
         let byte = match self.random.weighted(&[50, 20, 12, feeds]) {
             0 => 0x0A,
             1 => 0x0D,
@@ -123,7 +144,7 @@ impl JobMaker {
                 self.terminator();
             }
         } else {
-            let lines = usize::from(self.lines);
+            let lines = usize::from(self.form.lines);
             let count = self.random.number(lines - 1..=lines + 1);
             self.put(&vec![0x0A; count]);
         }
@@ -132,15 +153,15 @@ impl JobMaker {
     /// Mostly a line of the form; else the one past it, or any number.
     pub fn tab_item(&mut self) {
         let item = match self.random.weighted(&[70, 10, 10, 10]) {
-            0 => self.random.byte(1..=self.lines),
-            1 => self.lines + 1,
+            0 => self.random.byte(1..=self.form.lines),
+            1 => self.form.lines + 1,
             2 => self.random.pick(&[0x0A, 0x0C, 0x1B, 99, 100]),
             _ => self.random.byte(1..=255),
         };
         self.put(&[item]);
     }
 
-    fn tabs(&mut self) {
+    pub fn tabs(&mut self) {
         for _ in 0..self.random.number(1..=3) {
             match self.random.weighted(&[40, 30, 12, 18]) {
                 0 => {
@@ -175,9 +196,7 @@ impl JobMaker {
             }
             1 => self.put(b"\x1B\x1B"),
             2 => {
-                let wrong = self
-                    .random
-                    .pick(&[0x00, 0x0A, b'c', b'd', b'E', b'F', b'Y', 0x80, 0xE5]);
+                let wrong = self.random.pick(b"\x00\x0AcdEFY[[>?\x80\xE5");
                 self.put(&[0x1B, wrong]);
             }
             3 => {
@@ -204,12 +223,13 @@ impl JobMaker {
             return;
         }
         self.put(b"\x1Be");
-        match self.random.below(8) {
+        match self.random.below(9) {
             0 => self.characters(2),
             1 => self.put(b"\x1Bd"),
             2 => self.pitch(),
             3 => self.features(),
             4 => self.tabs(),
+            5 => self.any_bracket(),
             _ => {}
         }
         if self.random.chance(80) {
@@ -219,9 +239,9 @@ impl JobMaker {
 
     /// A plot line filled to its end, with every kind of byte past it.
     fn overlong_plot(&mut self) {
-        let pitch = self.random.pick(b">??");
-        self.put(&[0x0D, 0x1B, pitch, 0x1B, b'd']);
-        let columns = if pitch == b'>' { 2_200 } else { 1_320 };
+        let letter = self.random.pick(b">??");
+        self.put(&[0x0D, 0x1B, letter, 0x1B, b'd']);
+        let columns = self.columns(letter);
         for _ in 0..self.random.number(columns - 4..=columns) {
             let byte = self.random.pick(&[0x01, 0x2A, 0x55, 0x7F]);
             self.put(&[byte]);
@@ -350,7 +370,9 @@ impl JobMaker {
                     self.put(&[stray]);
                 }
                 2 => {
-                    let letter = self.random.pick(b"0127EfnoyDX\x00\x0A\x0C\x1B\x7F\x80\xD9");
+                    let letter = self
+                        .random
+                        .pick(b"0127EfnoyDXZ[\\\x00\x0A\x0C\x1B\x7F\x80\xD9");
                     self.put(&[0x1B, letter]);
                 }
                 _ => self.characters(2),
@@ -366,12 +388,12 @@ impl JobMaker {
                 true => self.random.byte(0..=255),
                 false => self
                     .random
-                    .pick(b"\x1B\x1B\x1B\x1BFNOcde56<=>?ab\x00\x00\x04\x0A\x0B\x0D\x7F\x80AB"),
+                    .pick(b"\x1B\x1B\x1B\x1B\x1B[[FNOcde56<=>?ab124;rwz\x00\x00\x04\x0A\x0B\x0D\x7F\x80AB"),
             };
             self.put(&[byte]);
         }
         if self.random.chance(70) {
-            // Ends a list that the noise may have begun.
+            // Ends what the noise may have begun.
             self.put(&[0x00]);
         }
         self.may_plot = true;

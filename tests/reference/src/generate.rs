@@ -1,52 +1,57 @@
-//! Scripts: a form, a font, and a job cut into pieces.
+//! Scripts: a model, a form, a font, and a job cut into pieces.
 
 use crate::glyph_maker;
-use crate::job_maker::job;
+use crate::job_maker::{job, lines};
 use crate::lent::FONT;
+use crate::model::Model;
 use crate::random::Random;
+use crate::replay::HEADER;
+use crate::sheet::Form;
 use std::io::{self, Write};
 
-/// Writes N scripts, each preceded by its length in four bytes, high first.
-pub fn generate(seed: u64, count: u64, output: &mut impl Write) -> io::Result<()> {
+/// Writes N scripts of these models, each preceded by its length in four bytes,
+/// high first.
+pub fn generate(
+    seed: u64,
+    count: u64,
+    models: &[Model],
+    output: &mut impl Write,
+) -> io::Result<()> {
     let mut random = Random::new(seed);
     for _ in 0..count {
-        let script = script(&mut random);
+        let script = script(&mut random, models);
         output.write_all(&(script.len() as u32).to_be_bytes())?;
         output.write_all(&script)?;
     }
     Ok(())
 }
 
-fn script(random: &mut Random) -> Vec<u8> {
-    let mut lines = lines(random);
-    let mut spacing = random.pick(&[6, 8]);
-    let mut job = job(random, lines);
+fn script(random: &mut Random, models: &[Model]) -> Vec<u8> {
+    let model = random.pick(models);
+    let form = Form::opened(model, lines(random, model), random.pick(&[6, 8]));
+    let mut job = job(random, form);
+    let mut header = [model.number(), form.lines, form.spacing];
+    let past = model.most_lines() + 1;
     // Now and then what an opening refuses, or no script at all.
-    match random.weighted(&[970, 10, 10, 5, 5]) {
+    let refused = random.weighted(&[965, 10, 10, 5, 5, 5]);
+    match refused {
         0 => {}
-        1 => lines = random.pick(&[0, 100, 255]),
-        2 => spacing = random.pick(&[0, 5, 7, 9, 12]),
-        3 => (lines, spacing) = (random.pick(&[0, 100]), 7),
-        _ => return vec![6; random.pick(&[0, 1, 2, 300, 1 + FONT])],
+        1 => header[1] = random.pick(&[0, past, past, 128, 255]),
+        2 => header[2] = random.pick(&[0, 5, 7, 9, 12]),
+        3 => (header[1], header[2]) = (random.pick(&[0, past]), 7),
+        4 => header[0] = random.pick(&[2, 3, 6, 127, 128, 255]),
+        _ => {
+            let length = random.pick(&[0, 1, 2, 3, 300, HEADER - 1 + FONT]);
+            return vec![random.pick(&[0, 1, 6]); length];
+        }
     }
-    if !(1..=99).contains(&lines) || ![6, 8].contains(&spacing) {
+    if refused != 0 {
         job.truncate(40);
     }
-    let mut script = vec![lines, spacing];
+    let mut script = header.to_vec();
     script.extend(glyph_maker::font(random));
     put_pieces(random, &job, &mut script);
     script
-}
-
-/// Small forms more often than large ones.
-fn lines(random: &mut Random) -> u8 {
-    match random.weighted(&[60, 20, 12, 6, 2]) {
-        0 => random.byte(1..=5),
-        1 => random.byte(6..=12),
-        2 => random.byte(13..=40),
-        3 => random.byte(41..=66),
-        _ => random.byte(67..=99),
-    }
 }
 
 /// How a job is cut.

@@ -3,30 +3,52 @@
 
 use crate::download_maker::half_download;
 use crate::fragments::FRAGMENTS;
+use crate::model::Model;
 use crate::random::Random;
+use crate::sheet::Form;
 
 pub struct JobMaker {
     pub random: Random,
-    /// L, so that tabs and moves make sense.
-    pub lines: u8,
+    /// The form, as far as the maker can tell, so that tabs, moves and margins
+    /// make sense.
+    pub form: Form,
     /// Plot mode may hold, and an ESC e be wanted.
     pub may_plot: bool,
     pub job: Vec<u8>,
 }
 
-/// A job for a form of so many lines.
-pub fn job(random: &mut Random, lines: u8) -> Vec<u8> {
+/// Lines of a form: small forms more often than large ones.
+pub fn lines(random: &mut Random, model: Model) -> u8 {
+    match random.weighted(&[60, 20, 12, 6, 2]) {
+        0 => random.byte(1..=5),
+        1 => random.byte(6..=12),
+        2 => random.byte(13..=40),
+        3 => random.byte(41..=66),
+        _ => random.byte(67..=model.most_lines()),
+    }
+}
+
+/// A job for a form, and for its model.
+pub fn job(random: &mut Random, form: Form) -> Vec<u8> {
     let mut maker = JobMaker {
         random: random.fork(),
-        lines,
+        form,
         may_plot: false,
         job: Vec::new(),
     };
     let length = maker.wanted_length();
-    let mut weights: Vec<usize> = FRAGMENTS.iter().map(|fragment| fragment.0).collect();
+    let model = usize::from(form.model.number());
+    let mut weights: Vec<usize> = FRAGMENTS
+        .iter()
+        .map(|(weights, _)| weights[model])
+        .collect();
     for _ in 0..2 {
         let favoured = maker.random.below(weights.len());
         weights[favoured] *= 6;
+    }
+    if form.model == Model::M6215 && length > 0 && maker.random.chance(40) {
+        // A job that sets its own form first, as hosts do.
+        maker.form_setting(true);
     }
     while maker.job.len() < length {
         if maker.may_plot && maker.random.chance(60) {
@@ -68,7 +90,7 @@ impl JobMaker {
         if self.may_plot {
             self.put(b"\x1Be");
         }
-        match self.random.below(8) {
+        match self.random.below(10) {
             0 => self.put(b"\x1B"),
             1 => {
                 self.put(b"\x1BF");
@@ -80,6 +102,19 @@ impl JobMaker {
             3 => self.put(b"\x1BN"),
             4 => self.put(b"\x1BN\x04"),
             5 => self.put(b"\r\x1Bd\x01\x1B"),
+            6 | 7 => {
+                let numbers = self.random.pick(&[
+                    "",
+                    "4",
+                    "00",
+                    ";",
+                    "66;1;66",
+                    ";;;",
+                    "18446744073709551620",
+                ]);
+                self.put(b"\x1B[");
+                self.put(numbers.as_bytes());
+            }
             _ => {
                 let half = half_download(&mut self.random);
                 self.put(&half);

@@ -1,6 +1,7 @@
 //! Document 01, "Memory lent": five stores and their exact lengths.
 
-use crate::sheet::{Form, LINE_STORE};
+use crate::model::Model;
+use crate::sheet::Form;
 
 pub const STAGING: usize = 2_048;
 pub const STORE: usize = 2_048;
@@ -16,11 +17,11 @@ pub struct Lent {
 }
 
 impl Lent {
-    /// Stores of the right lengths, with a page of so many bytes.
-    pub fn new(page_bytes: usize, font: Vec<u8>) -> Lent {
+    /// Stores of the model's lengths, with a page of so many bytes.
+    pub fn new(model: Model, page_bytes: usize, font: Vec<u8>) -> Lent {
         Lent {
             page: vec![0; page_bytes],
-            line: vec![0; LINE_STORE],
+            line: vec![0; model.line_store()],
             staging: vec![0; STAGING],
             store: vec![0; STORE],
             font,
@@ -31,7 +32,7 @@ impl Lent {
     pub fn refusal(&self, form: Form) -> Option<u8> {
         if self.page.len() != form.page_bytes() {
             Some(11)
-        } else if self.line.len() != LINE_STORE {
+        } else if self.line.len() != form.model.line_store() {
             Some(12)
         } else if self.staging.len() != STAGING {
             Some(13)
@@ -42,6 +43,12 @@ impl Lent {
         } else {
             None
         }
+    }
+
+    /// A blank page of the size that is due.
+    pub fn lend_page(&mut self, form: Form) {
+        self.page.clear();
+        self.page.resize(form.page_bytes(), 0);
     }
 
     /// Opening a job zeroes all but the font.

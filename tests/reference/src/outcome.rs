@@ -18,12 +18,20 @@ pub enum Fault {
     DownloadRange,
     TabItem,
     IllFormedGlyph,
+    /// ESC [ with another last byte.
+    UnknownBracket,
+    StyleValue,
+    SpacingValue,
+    FormSetting,
+    FormOutOfPlace,
+    SpacingOutOfPlace,
 }
 
 impl Fault {
     pub fn number(self) -> u8 {
         match self {
-            Fault::UnknownCommand => 42,
+            Fault::UnknownCommand | Fault::UnknownBracket => 42,
+            Fault::FormSetting | Fault::FormOutOfPlace | Fault::SpacingOutOfPlace => 43,
             Fault::PastLine | Fault::PlotPastLine => 44,
             Fault::Checksum => 45,
             Fault::StrayByte
@@ -34,7 +42,9 @@ impl Fault {
             | Fault::PrintOnPlotLine
             | Fault::PlotEscape
             | Fault::PlotHighByte
-            | Fault::DownloadRange => 46,
+            | Fault::DownloadRange
+            | Fault::StyleValue
+            | Fault::SpacingValue => 46,
             Fault::TabItem => 48,
             Fault::IllFormedGlyph => 80,
         }

@@ -34,12 +34,13 @@ pub fn take_after_escape(state: &mut State, lent: &mut Lent, place: u32, byte: u
     }
 }
 
-/// Enters one column on the bottom seven wires, bits 0..6.
+/// Enters one column on the bottom seven wires, bits 0..6, at the first of the
+/// positions that it takes.
 fn enter(state: &mut State, lent: &mut Lent, value: u8, place: u32) -> Outcome {
-    if state.column == state.pitch.columns() {
+    if state.position + state.step() > state.width() {
         return Outcome::Note(Fault::PlotPastLine, place);
     }
-    lent.line[state.column] |= u16::from(value);
-    state.column += 1;
+    lent.line[state.position] |= u16::from(value);
+    state.position += state.step();
     Outcome::Quiet
 }

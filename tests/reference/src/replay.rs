@@ -3,12 +3,16 @@
 use crate::adler::adler32;
 use crate::calls::{close, feed, open, Answer, Closing};
 use crate::lent::{Lent, FONT};
+use crate::model::Model;
 use crate::sheet::{Form, Pitch};
 use crate::state::State;
 use std::io::{self, Read, Write};
 
-/// L, spacing and font; a script has no less.
-pub const SHORTEST: u64 = 2 + FONT as u64;
+/// Model, L and spacing, a byte each.
+pub const HEADER: usize = 3;
+
+/// Header and font; a script has no less.
+pub const SHORTEST: u64 = (HEADER + FONT) as u64;
 
 /// A script has no more.
 pub const LONGEST: u64 = 262_144;
@@ -46,17 +50,22 @@ fn read_bytes(input: &mut impl Read, count: u64) -> io::Result<Option<Vec<u8>>> 
     Ok(Some(bytes).filter(|bytes| bytes.len() as u64 == count))
 }
 
-/// One script of an allowed length: OPEN and all that follows.
+/// One script of an allowed length: OPEN and all that follows, unless its first
+/// byte is no model's.
 fn play(script: &[u8], output: &mut impl Write) -> io::Result<()> {
-    let form = Form {
-        lines: script[0],
-        spacing: script[1],
+    let (header, rest) = script.split_at(HEADER);
+    let Some(model) = Model::of_number(header[0]) else {
+        return writeln!(output, "REFUSED SCRIPT");
     };
-    let (font, rest) = script[2..].split_at(FONT);
-    let allowed = form.lines_allowed() && form.spacing_allowed();
-    let page_bytes = if allowed { form.page_bytes() } else { 0 };
-    let mut lent = Lent::new(page_bytes, font.to_vec());
-    let (number, mut state) = open(form.lines, form.spacing, &mut lent);
+    let form = Form::opened(model, header[1], header[2]);
+    let (font, rest) = rest.split_at(FONT);
+    let page_bytes = if form.is_allowed() {
+        form.page_bytes()
+    } else {
+        0
+    };
+    let mut lent = Lent::new(model, page_bytes, font.to_vec());
+    let (number, mut state) = open(model, form.lines, form.spacing, &mut lent);
     writeln!(output, "OPEN {number}")?;
     if number != 0 {
         return Ok(());
@@ -109,7 +118,7 @@ fn feed_all(
             if fed.answer == Answer::FormFinished {
                 forms += 1;
                 writeln!(output, "FORM {forms} {:08x}", adler32(&lent.page))?;
-                lent.page.fill(0);
+                lent.lend_page(state.form);
             }
             if number > 2 {
                 return Ok(());
@@ -134,7 +143,7 @@ fn print_rest(state: &State, lent: &Lent, output: &mut impl Write) -> io::Result
     writeln!(output, "LINE {:08x}", adler32(&line))?;
     writeln!(output, "STAGING {:08x}", adler32(&lent.staging))?;
     writeln!(output, "STORE {:08x}", adler32(&lent.store))?;
-    write!(output, "HEAD {} {}", state.row.0, state.column)?;
+    write!(output, "HEAD {} {}", state.row.0, state.position)?;
     let flags = [
         state.pitch == Pitch::Compressed,
         state.elongated,
@@ -148,6 +157,14 @@ fn print_rest(state: &State, lent: &Lent, output: &mut impl Write) -> io::Result
         write!(output, " {}", u8::from(flag))?;
     }
     writeln!(output)?;
+    if state.form.model == Model::M6215 {
+        let form = state.form;
+        writeln!(
+            output,
+            "MARGINS {} {} {} {}",
+            form.lines, form.spacing, form.top.0, form.bottom.0
+        )?;
+    }
     writeln!(output, "JOB {}", state.job)?;
     write!(output, "TABS")?;
     for line in &state.tabs {

@@ -1,22 +1,19 @@
-//! Document 01, "The sheet": lines, rows, grid positions, and striking.
+//! Document 01, "The sheet": lines, rows, grid positions, and striking; with
+//! document 02's margins (#105).
+
+use crate::model::Model;
 
 /// A line number, from 1.
 #[derive(Clone, Copy, PartialEq, Eq, PartialOrd, Ord, Debug)]
 pub struct Line(pub u8);
 
 /// A row of dots on the form, from 0.
-#[derive(Clone, Copy, PartialEq, Eq, Debug)]
+#[derive(Clone, Copy, PartialEq, Eq, PartialOrd, Ord, Debug)]
 pub struct Row(pub u32);
 
 /// A grid position in a row, from 0.
 #[derive(Clone, Copy, PartialEq, Eq, Debug)]
 pub struct Grid(pub usize);
-
-/// Bytes in a row: 6,600 grid positions, eight to a byte.
-pub const ROW_BYTES: usize = 825;
-
-/// Numbers in the line store, one a column.
-pub const LINE_STORE: usize = 2_200;
 
 /// Wires of the head, and so the rows that a struck line covers.
 pub const WIRES: u32 = 9;
@@ -29,20 +26,50 @@ pub const fn wire_bit(wire: u32) -> u16 {
     1 << (WIRES - wire)
 }
 
-/// A form's size: L lines at 6 or 8 an inch.
+/// A form of a model: L lines at 6 or 8 an inch, and its margins.
 #[derive(Clone, Copy, PartialEq, Eq, Debug)]
 pub struct Form {
+    pub model: Model,
     pub lines: u8,
     pub spacing: u8,
+    /// N2, the line at which the form starts.
+    pub top: Line,
+    /// N3, the last line of print.
+    pub bottom: Line,
 }
 
 impl Form {
+    /// Margins open as 1 and L.
+    pub fn opened(model: Model, lines: u8, spacing: u8) -> Form {
+        Form {
+            model,
+            lines,
+            spacing,
+            top: Line(1),
+            bottom: Line(lines),
+        }
+    }
+
     pub fn lines_allowed(self) -> bool {
-        (1..=99).contains(&self.lines)
+        (1..=self.model.most_lines()).contains(&self.lines)
     }
 
     pub fn spacing_allowed(self) -> bool {
         matches!(self.spacing, 6 | 8)
+    }
+
+    /// 1 ≤ N2 ≤ N3 ≤ L; an LP2 has no margins but 1 and L.
+    fn margins_allowed(self) -> bool {
+        match self.model {
+            Model::Lp2 => (self.top, self.bottom) == (Line(1), Line(self.lines)),
+            Model::M6215 => {
+                Line(1) <= self.top && self.top <= self.bottom && self.bottom <= Line(self.lines)
+            }
+        }
+    }
+
+    pub fn is_allowed(self) -> bool {
+        self.lines_allowed() && self.spacing_allowed() && self.margins_allowed()
     }
 
     /// R: 72 rows an inch, shared by 6 or 8 lines.
@@ -55,12 +82,18 @@ impl Form {
     }
 
     pub fn page_bytes(self) -> usize {
-        self.rows() as usize * ROW_BYTES
+        self.rows() as usize * self.model.row_bytes()
     }
 
-    /// r + 9 ≤ L × R.
+    /// Where a form starts: N2's first row.
+    pub fn start(self) -> Row {
+        self.first_row(self.top)
+    }
+
+    /// r + 9 ≤ N3 × R.
     pub fn fits(self, row: Row) -> bool {
-        u64::from(row.0) + u64::from(WIRES) <= u64::from(self.rows())
+        let end = u32::from(self.bottom.0) * self.rows_per_line();
+        u64::from(row.0) + u64::from(WIRES) <= u64::from(end)
     }
 
     /// The line on which a row lies: 1 + r ÷ R, rounded down.
@@ -76,6 +109,11 @@ impl Form {
     pub fn has(self, line: Line) -> bool {
         (1..=self.lines).contains(&line.0)
     }
+
+    /// Is this a line within the margins: N2..N3?
+    pub fn prints_on(self, line: Line) -> bool {
+        (self.top..=self.bottom).contains(&line)
+    }
 }
 
 #[derive(Clone, Copy, PartialEq, Eq, Debug)]
@@ -85,42 +123,36 @@ pub enum Pitch {
 }
 
 impl Pitch {
-    /// W, the columns of a text line.
-    pub fn columns(self) -> usize {
+    /// Grid positions from one column to the next.
+    pub fn apart(self) -> usize {
         match self {
-            Pitch::Normal => 1_320,
-            Pitch::Compressed => 2_200,
-        }
-    }
-
-    /// Where a column stands: 5c in normal pitch, 3c in compressed.
-    pub fn grid(self, column: usize) -> Grid {
-        match self {
-            Pitch::Normal => Grid(5 * column),
-            Pitch::Compressed => Grid(3 * column),
+            Pitch::Normal => 5,
+            Pitch::Compressed => 3,
         }
     }
 }
 
-/// Strikes the line at a row that fits: each column below W is struck, and the
-/// whole store is then zeroed.
-pub fn strike(page: &mut [u8], line_store: &mut [u16], row: Row, pitch: Pitch) {
-    for (column, &number) in line_store[..pitch.columns()].iter().enumerate() {
-        strike_column(page, number, row, pitch.grid(column));
+/// Strikes the line at a row that fits: each position below W is struck, and
+/// the whole store is then zeroed.
+pub fn strike(page: &mut [u8], line_store: &mut [u16], row: Row, model: Model, pitch: Pitch) {
+    let positions = line_store[..model.width(pitch)].iter().enumerate();
+    // Most positions are empty, and strike nothing.
+    for (position, &number) in positions.filter(|&(_, &number)| number != 0) {
+        strike_position(page, number, row, model, model.grid(position, pitch));
     }
     line_store.fill(0);
 }
 
-/// Each set wire i of a column blackens its grid position in row r + i − 1.
-pub fn strike_column(page: &mut [u8], number: u16, row: Row, grid: Grid) {
+/// Each set wire i of a position blackens its grid position in row r + i − 1.
+pub fn strike_position(page: &mut [u8], number: u16, row: Row, model: Model, grid: Grid) {
     for wire in 1..=WIRES {
         if number & wire_bit(wire) != 0 {
-            blacken(page, Row(row.0 + wire - 1), grid);
+            blacken(page, Row(row.0 + wire - 1), model, grid);
         }
     }
 }
 
 /// Blackens one dot; the leftmost position is in a byte's highest bit.
-fn blacken(page: &mut [u8], row: Row, grid: Grid) {
-    page[row.0 as usize * ROW_BYTES + grid.0 / 8] |= 0x80 >> (grid.0 % 8);
+fn blacken(page: &mut [u8], row: Row, model: Model, grid: Grid) {
+    page[row.0 as usize * model.row_bytes() + grid.0 / 8] |= 0x80 >> (grid.0 % 8);
 }

@@ -1,17 +1,21 @@
 //! The state between two calls, and when it is sound (document 01, "What a
-//! call gives back").
+//! call gives back"; of margins and models, document 02, #105).
 
+use crate::bracket::Bracket;
 use crate::download::Download;
+use crate::model::Model;
 use crate::sheet::{Form, Line, Pitch, Row};
 use std::collections::BTreeSet;
 
 #[derive(Clone, PartialEq, Eq, Debug)]
 pub struct State {
+    /// The form, and with it the model.
     pub form: Form,
     /// Bytes of the job taken so far, and so the next byte's place.
     pub job: u32,
     pub row: Row,
-    pub column: usize,
+    /// A number of the line store: an LP2's column, a 6215's grid position.
+    pub position: usize,
     pub pitch: Pitch,
     pub elongated: bool,
     pub underscore: bool,
@@ -48,16 +52,18 @@ pub enum Due {
     SelectSecond(u8),
     /// ESC Y: some byte of a download.
     Download(Download),
+    /// ESC [: a digit, a semicolon or the last byte.
+    Bracket(Bracket),
 }
 
 impl State {
-    /// Row 0, column 0, normal pitch, all features off, no tabs.
+    /// Row 0, position 0, normal pitch, all features off, no tabs.
     pub fn opened(form: Form) -> State {
         State {
             form,
             job: 0,
             row: Row(0),
-            column: 0,
+            position: 0,
             pitch: Pitch::Normal,
             elongated: false,
             underscore: false,
@@ -71,44 +77,52 @@ impl State {
     }
 
     /// What a refused opening gives: L = 0, which is unsound.
-    pub fn shut() -> State {
-        State::opened(Form {
-            lines: 0,
-            spacing: 0,
-        })
+    pub fn shut(model: Model) -> State {
+        State::opened(Form::opened(model, 0, 0))
     }
 
     pub fn line(&self) -> Line {
         self.form.line_of(self.row)
     }
 
-    /// The line in progress is over: column 0, fresh, no plot line.
+    /// W for the model and the pitch.
+    pub fn width(&self) -> usize {
+        self.form.model.width(self.pitch)
+    }
+
+    /// The positions that a column takes in this pitch.
+    pub fn step(&self) -> usize {
+        self.form.model.step(self.pitch)
+    }
+
+    /// The line in progress is over: position 0, fresh, no plot line.
     pub fn begin_line(&mut self) {
-        self.column = 0;
+        self.position = 0;
         self.fresh = true;
         self.plot_line = false;
     }
 
     /// The job length needs no test: every u32 is in range.
     pub fn is_sound(&self) -> bool {
-        self.form.lines_allowed()
-            && self.form.spacing_allowed()
+        self.form.is_allowed()
+            && self.form.start() <= self.row
             && self.form.fits(self.row)
-            && self.column <= self.pitch.columns()
+            && self.position <= self.width()
             && self.tabs.iter().all(|&line| self.form.has(line))
             && self
                 .started
                 .is_none_or(|command| self.command_is_sound(command))
-            && (!self.fresh || (self.column == 0 && !self.plot_line))
+            && (!self.fresh || (self.position == 0 && !self.plot_line))
             && (!self.plotting || self.plot_is_sound())
     }
 
     fn command_is_sound(&self, command: Command) -> bool {
-        let payload_is_sound = match command.due {
+        let due_is_sound = match command.due {
             Due::Download(download) => download.taken <= download.count,
+            Due::Bracket(_) => self.form.model == Model::M6215,
             _ => true,
         };
-        command.place < self.job && payload_is_sound
+        command.place < self.job && due_is_sound
     }
 
     /// Plot mode: only on a plot line, and no command begun but a lone ESC.

@@ -2,7 +2,7 @@
 
 use crate::lent::Lent;
 use crate::outcome::Outcome;
-use crate::sheet::{strike, Line, Row};
+use crate::sheet::{strike, Row};
 use crate::state::State;
 
 #[derive(Clone, Copy, PartialEq, Eq, Debug)]
@@ -24,11 +24,18 @@ pub fn take(state: &mut State, lent: &mut Lent, terminator: Terminator) -> Outco
     } else {
         state.form.rows_per_line()
     };
-    strike(&mut lent.page, &mut lent.line, state.row, state.pitch);
+    let model = state.form.model;
+    strike(
+        &mut lent.page,
+        &mut lent.line,
+        state.row,
+        model,
+        state.pitch,
+    );
     state.begin_line();
     match terminator {
         Terminator::CarriageReturn => Outcome::Quiet,
-        Terminator::FormFeed => finish(state, Row(0)),
+        Terminator::FormFeed => finish(state, state.form.start()),
         Terminator::Newline => newline(state, step),
         Terminator::VerticalTab => vertical_tab(state),
     }
@@ -42,24 +49,26 @@ fn finish(state: &mut State, row: Row) -> Outcome {
 fn newline(state: &mut State, step: u32) -> Outcome {
     let row = Row(state.row.0 + step);
     if !state.form.fits(row) {
-        return finish(state, Row(0));
+        return finish(state, state.form.start());
     }
     state.row = row;
     Outcome::Quiet
 }
 
 /// To the next tabbed line below; with none below, to the lowest-numbered one
-/// on the next form; with no tab at all, no move.
+/// on the next form; with no tab at all, no move. Tabs outside the margins
+/// count as none.
 fn vertical_tab(state: &mut State) -> Outcome {
-    let current = state.line();
-    let below: Option<Line> = state.tabs.iter().copied().find(|&line| line > current);
-    let lowest: Option<Line> = state.tabs.first().copied();
+    let (form, current) = (state.form, state.line());
+    let mut tabs = state.tabs.iter().filter(|&&line| form.prints_on(line));
+    let lowest = tabs.clone().next().copied();
+    let below = tabs.find(|&&line| line > current).copied();
     match (below, lowest) {
         (Some(line), _) => {
-            state.row = state.form.first_row(line);
+            state.row = form.first_row(line);
             Outcome::Quiet
         }
-        (None, Some(line)) => finish(state, state.form.first_row(line)),
+        (None, Some(line)) => finish(state, form.first_row(line)),
         (None, None) => Outcome::Quiet,
     }
 }

@@ -33,8 +33,9 @@ fn print(state: &mut State, lent: &mut Lent, code: u8) -> Outcome {
         return Outcome::Note(Fault::PrintOnPlotLine, state.job);
     }
     let stretch = if state.elongated { 2 } else { 1 };
-    let cell = 10 * stretch;
-    if state.column + cell > state.pitch.columns() {
+    let step = state.step();
+    let end = state.position + 10 * stretch * step;
+    if end > state.width() {
         return Outcome::Note(Fault::PastLine, state.job);
     }
     let glyphs = if state.downloaded {
@@ -43,16 +44,15 @@ fn print(state: &mut State, lent: &mut Lent, code: u8) -> Outcome {
         &lent.font
     };
     let columns = glyph::columns(glyphs, code);
-    let cell_store = &mut lent.line[state.column..state.column + cell];
-    for (column, number) in cell_store[..stretch * columns.len()].iter_mut().enumerate() {
-        *number |= columns[column / stretch];
-    }
-    if state.underscore {
-        for number in cell_store.iter_mut().step_by(2) {
+    // Each column of the cell stands at the first of its positions.
+    let cell = lent.line[state.position..end].iter_mut().step_by(step);
+    for (column, number) in cell.enumerate() {
+        *number |= columns.get(column / stretch).unwrap_or(&0);
+        if state.underscore && column % 2 == 0 {
             *number |= WIRE_9;
         }
     }
-    state.column += cell;
+    state.position = end;
     state.fresh = false;
     Outcome::Quiet
 }

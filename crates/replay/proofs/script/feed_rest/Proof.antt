@@ -1,6 +1,6 @@
 -- `script::feed_rest` is safe and ends: an offer counts the bytes that were taken before it.
 mod Places
-use mathlib.Core.Path.{ap, _∙_}
+use mathlib.Core.Path.{ap}
 use native.Mathlib.Omega.{arith}
 use borrow.Author.Needs.{needs}
 use Rattle.protocol.specs.Calls.{Feeding}
@@ -12,7 +12,7 @@ sub-tell-feeding : tie.Need-sub-tell-feeding
 sub-tell-feeding c = omega (arith, ap (λ (f : Feeding). f .taken) (offer-at-sub-tell-feeding c .offer .ensures))
 
 same-length : tie.Need-same-length
-same-length c = c .before .before .tell-feeding .kept .1 .1 .1 .0 ∙ offer-at-same-length c .offer .kept .1 .1 .1 .0
+same-length c = offer-at-same-length c .offer .kept .1 .1 .1 .0
 
 pub feed-rest-spec : {M : Type 1} → statement M
 feed-rest-spec =
