@@ -129,7 +129,7 @@ uint64_t clocktoad_open(uint64_t model, uint64_t lines, uint64_t spacing,
  * Else 0, 1, 2 or 3, and the report is written. A finished page is not cleared.
  * State, page, line store, staging and download store must hold what the call before left in them,
  * but for the page after answer 1: a host may have changed the form of a 6215, and then the page
- * that is due has another length, which clocktoad_page_due tells.
+ * that is due may have another length, which clocktoad_page_due tells.
  */
 uint64_t clocktoad_feed(uint64_t *state, size_t state_len,
                         uint8_t *page, size_t page_len,

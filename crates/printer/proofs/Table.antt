@@ -25,41 +25,35 @@ use Rattle.printer.specs.Commands.{item, items, cut-tabs, cut-reset, cut
 use Rattle.printer.specs.Commands.{leave-download, leave-select, leave, read-cut, read, reading}
 use Rattle.printer.specs.Brackets.{at-top, bracket, continues, digit-read, only, reform, reformed, resize, respace, setting-byte, settings, style}
 use Rattle.printer.specs.Brackets.{with-digit}
-use Rattle.printer.specs.Table.{forms, look-at, styles, table, stated, found, Holds}
+use Rattle.printer.specs.Table.{forms, from-f-on, look-at, styles, table, table-6215, stated, found, Holds}
+
+-- one statement over all of them
+all-hold : Holds Lp2 table × Holds Dg6215 table-6215 × Holds Dg6215 styles × Holds Dg6215 forms
+unfolding lp2 dg6215 margins-allowed unmargined top-row below-top
+    lines-allowed spacing-allowed rows-per-line form-rows empty-line first-row line-of has-line fits word column small apart each
+    well-formed all-well-formed cell or-in enter-narrow enter-wide underscore enter-glyph enter empty-store word-tabs line-tabs no-tabs put-bit
+    with-tab form-sound untabbed tabs-sound fresh-sound plot-sound sound close-line close-command closing tell tell-step note-number told-report close-report
+    entered print first-tab strike newline form-feed carriage-return tab-to vertical-tab tab tab-here clear-tabs tab-item in-turn repitched
+    after-reset reset select escape plot plots plot-byte plot-escape stage total out-of-range replaced download prints text-byte alone first-byte text-escape
+    second-byte tab-byte payload-byte act step run item items cut-tabs cut-reset cut-select cut-checksum cut-download cut-escape cut set-tabs
+    obey leave-download leave-select leave read-cut read reading look-at table from-f-on table-6215 stated found styles forms
+    continues with-digit digit-read setting-byte settings only at-top reformed reform style resize respace bracket tabs-through bracket-byte
+    cut-bracket text text-before
+all-hold = (
+  record { by-bytes = λ font. refl; by-commands = λ font. refl },
+  record { by-bytes = λ font. refl; by-commands = λ font. refl },
+  record { by-bytes = λ font. refl; by-commands = λ font. refl },
+  record { by-bytes = λ font. refl; by-commands = λ font. refl },
+)
 
 pub cases : Holds Lp2 table
-unfolding lp2 dg6215 margins-allowed unmargined top-row below-top
-    lines-allowed spacing-allowed rows-per-line form-rows empty-line first-row line-of has-line fits word column small apart each
-    well-formed all-well-formed cell or-in enter-narrow enter-wide underscore enter-glyph enter empty-store word-tabs line-tabs no-tabs put-bit
-    with-tab form-sound untabbed tabs-sound fresh-sound plot-sound sound close-line close-command closing tell tell-step note-number told-report close-report
-    entered print first-tab strike newline form-feed carriage-return tab-to vertical-tab tab tab-here clear-tabs tab-item in-turn repitched
-    after-reset reset select escape plot plots plot-byte plot-escape stage total out-of-range replaced download prints text-byte alone first-byte text-escape
-    second-byte tab-byte payload-byte act step run item items cut-tabs cut-reset cut-select cut-checksum cut-download cut-escape cut set-tabs
-    obey leave-download leave-select leave read-cut read reading look-at table stated found
-cases = record { by-bytes = λ font. refl; by-commands = λ font. refl }
+cases = all-hold .0
+
+pub cases-6215 : Holds Dg6215 table-6215
+cases-6215 = all-hold .1
 
 pub style-cases : Holds Dg6215 styles
-unfolding lp2 dg6215 margins-allowed unmargined top-row below-top
-    lines-allowed spacing-allowed rows-per-line form-rows empty-line first-row line-of has-line fits word column small apart each
-    well-formed all-well-formed cell or-in enter-narrow enter-wide underscore enter-glyph enter empty-store word-tabs line-tabs no-tabs put-bit
-    with-tab form-sound untabbed tabs-sound fresh-sound plot-sound sound close-line close-command closing tell tell-step note-number told-report close-report
-    entered print first-tab strike newline form-feed carriage-return tab-to vertical-tab tab tab-here clear-tabs tab-item in-turn repitched
-    after-reset reset select escape plot plots plot-byte plot-escape stage total out-of-range replaced download prints text-byte alone first-byte text-escape
-    second-byte tab-byte payload-byte act step run item items cut-tabs cut-reset cut-select cut-checksum cut-download cut-escape cut set-tabs
-    obey leave-download leave-select leave read-cut read reading look-at table stated found styles
-    continues with-digit digit-read setting-byte settings only at-top reformed reform style resize respace bracket tabs-through bracket-byte
-    cut-bracket text text-before
-style-cases = record { by-bytes = λ font. refl; by-commands = λ font. refl }
+style-cases = all-hold .2
 
 pub form-cases : Holds Dg6215 forms
-unfolding lp2 dg6215 margins-allowed unmargined top-row below-top
-    lines-allowed spacing-allowed rows-per-line form-rows empty-line first-row line-of has-line fits word column small apart each
-    well-formed all-well-formed cell or-in enter-narrow enter-wide underscore enter-glyph enter empty-store word-tabs line-tabs no-tabs put-bit
-    with-tab form-sound untabbed tabs-sound fresh-sound plot-sound sound close-line close-command closing tell tell-step note-number told-report close-report
-    entered print first-tab strike newline form-feed carriage-return tab-to vertical-tab tab tab-here clear-tabs tab-item in-turn repitched
-    after-reset reset select escape plot plots plot-byte plot-escape stage total out-of-range replaced download prints text-byte alone first-byte text-escape
-    second-byte tab-byte payload-byte act step run item items cut-tabs cut-reset cut-select cut-checksum cut-download cut-escape cut set-tabs
-    obey leave-download leave-select leave read-cut read reading look-at table stated found forms
-    continues with-digit digit-read setting-byte settings only at-top reformed reform style resize respace bracket tabs-through bracket-byte
-    cut-bracket text text-before
-form-cases = record { by-bytes = λ font. refl; by-commands = λ font. refl }
+form-cases = all-hold .3

@@ -74,21 +74,11 @@ form-finished = plain 1
 abbrev pub download-b : ℕ → List ℕ
 download-b checksum = 0o033 ∷ 0o131 ∷ 0o000 ∷ 0o020 ∷ 0o014 ∷ 0o040 ∷ (capital-b ++ (checksum ∷ []))
 
--- the cases, each behind its letter
-unfoldable pub table : List Case
-table =
-    -- A
-    from-top [] [] (sees closed (answer (plain 0)) ∷ [])
-    -- B
-    ∷ from-top (replicate 133 0x41) (note-at 44 132 ∷ []) []
-    -- C
-    ∷ from-top (0x1b ∷ 0x3c ∷ replicate 67 0x41) (note-at 44 68 ∷ []) []
-    -- D
-    ∷ from-top (0x1b ∷ 0x64 ∷ 0x7f ∷ []) [] (sees (column 0) (number 127) ∷ [])
-    -- E
-    ∷ from-top (0x1b ∷ 0x64 ∷ 0x1b ∷ 0x1b ∷ []) [] (sees position (number 1) ∷ sees (column 0) (number 27) ∷ [])
+-- the cases, each behind its letter: first those that go by no width
+unfoldable pub from-f-on : List Case
+from-f-on =
     -- F
-    ∷ from-top (0x1b ∷ 0x46 ∷ 0x0a ∷ 0x00 ∷ 0x0b ∷ []) [] (sees row (number 108) ∷ [])
+    from-top (0x1b ∷ 0x46 ∷ 0x0a ∷ 0x00 ∷ 0x0b ∷ []) [] (sees row (number 108) ∷ [])
     -- G
     ∷ from-top (0x0b ∷ []) [] (sees row (number 0) ∷ [])
     -- H
@@ -106,6 +96,36 @@ table =
     -- L
     ∷ from-top (0x1b ∷ 0x30 ∷ []) (note-at 42 0 ∷ []) []
     ∷ []
+
+-- the table of the LP2
+unfoldable pub table : List Case
+table =
+    -- A
+    from-top [] [] (sees closed (answer (plain 0)) ∷ [])
+    -- B
+    ∷ from-top (replicate 133 0x41) (note-at 44 132 ∷ []) []
+    -- C
+    ∷ from-top (0x1b ∷ 0x3c ∷ replicate 67 0x41) (note-at 44 68 ∷ []) []
+    -- D
+    ∷ from-top (0x1b ∷ 0x64 ∷ 0x7f ∷ []) [] (sees (column 0) (number 127) ∷ [])
+    -- E
+    ∷ from-top (0x1b ∷ 0x64 ∷ 0x1b ∷ 0x1b ∷ []) [] (sees position (number 1) ∷ sees (column 0) (number 27) ∷ [])
+    ∷ from-f-on
+
+-- the table of the 6215: its line takes 136 normal characters or 68 elongated ones, and a column five positions
+unfoldable pub table-6215 : List Case
+table-6215 =
+    -- A
+    from-top [] [] (sees closed (answer (plain 0)) ∷ [])
+    -- B
+    ∷ from-top (replicate 137 0x41) (note-at 44 136 ∷ []) []
+    -- C
+    ∷ from-top (0x1b ∷ 0x3c ∷ replicate 69 0x41) (note-at 44 70 ∷ []) []
+    -- D
+    ∷ from-top (0x1b ∷ 0x64 ∷ 0x7f ∷ []) [] (sees (column 0) (number 127) ∷ [])
+    -- E
+    ∷ from-top (0x1b ∷ 0x64 ∷ 0x1b ∷ 0x1b ∷ []) [] (sees position (number 5) ∷ sees (column 0) (number 27) ∷ [])
+    ∷ from-f-on
 
 -- ESC [, its digits and semicolons with the last byte, and what follows
 abbrev pub bracketed : List ℕ → List ℕ → List ℕ

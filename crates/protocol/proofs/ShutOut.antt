@@ -18,7 +18,7 @@ use Rattle.printer.specs.Machine.{Machine, empty-store, store-size}
 use Rattle.printer.specs.Numbers.{Report, plain, told-report}
 use Rattle.printer.specs.Room.{Ready}
 use Rattle.printer.specs.Steps.{Outcome, before, note, tell, tell-step}
-use Rattle.printer.specs.Table.{Case, Findings, Meets, Seen, answer, bytes, found, from-top, look-at, note-at, number, start, stated, table}
+use Rattle.printer.specs.Table.{Case, Findings, Meets, Seen, answer, bytes, found, from-f-on, from-top, look-at, note-at, number, start, stated, table}
 use Rattle.printer.proofs.Readings.{run-reading}
 use Rattle.printer.proofs.StaysSound.{opened-ready, step-fine}
 use Rattle.protocol.specs.declared.Answer.{Answer}
@@ -73,7 +73,7 @@ findings i fs = getD fs i (record { told = []; seen = [] })
 
 -- a program that meets the table meets them
 pub table-has : (feed : Program) → Meets Lp2 table (in-one-piece feed) → MeetsCase feed case-b × MeetsCase feed case-c × MeetsCase feed case-h
-unfolding table
+unfolding table from-f-on
 table-has feed h = (ap (findings 1) h, ap (findings 2) h, ap (findings 7) h)
 
 -- a refusal tells nothing
@@ -258,7 +258,7 @@ module _ (feed : Program) where
 
   -- ONE THAT LEAVES MEMORY ALONE, be it only the download store, falls to demand 2 at case H.
   pub leaves-memory-alone : ((piece : List ℕ) (m : Machine) → feed piece m .machine .store ≡ m .store) → MeetsCase feed case-h → ⊥
-  unfolding table found stated look-at empty-store
+  unfolding table from-f-on found stated look-at empty-store
   leaves-memory-alone keeps h =
       let k : _≡_ {A = ℕ} 0 1 = rw (job-keeps keeps (case-h .job) at-top) at (ap (λ (f : Findings). third-byte (f .seen)) h) in
       omega arith

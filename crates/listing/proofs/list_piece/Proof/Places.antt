@@ -16,5 +16,5 @@ module _ {Inv-loop : tie.InvT-loop} {μ-loop : tie.MeasureT-loop} where
       .before .before
 
   abbrev pub then1-at-loop-less : tie.Else3 Inv-loop μ-loop → tie.Then1 Inv-loop μ-loop
-  then1-at-loop-less c = c .before .before .before .before .before .before .before .before .before .before .before .before .before .before
-      .before .before .before
+  then1-at-loop-less c = c .before .before .before .before .before .before .before .before .before .before .before .before .before .before .before
+      .before .before

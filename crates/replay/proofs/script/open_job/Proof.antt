@@ -4,7 +4,7 @@ use native.Mathlib.Omega.{arith}
 use mathlib.Core.Path.{_∙_}
 use lib.ListN.{length-take}
 use borrow.Author.Needs.{needs}
-use Rattle.replay.proofs.Lengths.{rejoined}
+use Rattle.job.proofs.Lent.{rejoined}
 use Rattle.replay.proofs.script.open_job.Statement.{statement}
 use Rattle.replay.proofs.script.open_job.Tie as tie
 use Places.*
