@@ -1,5 +1,5 @@
 /*
- * Runs the library and its twin in C on the same jobs and prints their speed.
+ * Runs the library and its twin in C on the same jobs, of an LP2 and of a 6215, and prints their speed.
  * First both are held against each other, call by call; a difference ends the program with status 1.
  * In the timed runs a finished page is not zeroed, for both alike: only the calls are measured.
  */
@@ -15,49 +15,67 @@
 #include <string.h>
 #include <time.h>
 
-enum { LINES = 66, SPACING = 6, ESC = 0x1B, DENSE = 132, RUNS_MAX = 5, PAGE = 66 * 12 * CLOCKTOAD_ROW_BYTES };
+enum { LINES = 66, SPACING = 6, ESC = 0x1B, DENSE = 132, RUNS_MAX = 5 };
 
 /* Aligned so that both readers' memory lies alike in caches and in pages of memory. */
 struct reader {
-    _Alignas(4096) uint8_t page[PAGE];
+    _Alignas(4096) uint8_t page[CLOCKTOAD_6215_PAGE_BYTES_MAX];
     uint64_t state[CLOCKTOAD_STATE_WORDS];
     struct twin twin;
     uint64_t report[CLOCKTOAD_REPORT_WORDS];
-    uint16_t line[CLOCKTOAD_LINE_NUMBERS];
+    uint16_t line[CLOCKTOAD_6215_LINE_NUMBERS];
     uint8_t staging[CLOCKTOAD_STAGING_BYTES];
     uint8_t store[CLOCKTOAD_STORE_BYTES];
+    size_t page_len, line_len; /* so much is lent; the page's is what the state says is due */
 };
 
 static struct reader library, twin;
 static uint8_t font[CLOCKTOAD_FONT_BYTES];
 
-static uint64_t open_library(struct reader *r)
+/* Lends what a job of the model opens with. */
+static void lend(struct reader *r, uint64_t model)
 {
-    return clocktoad_open(LINES, SPACING, r->state, CLOCKTOAD_STATE_WORDS, r->page, PAGE,
-                          r->line, CLOCKTOAD_LINE_NUMBERS, r->staging, sizeof r->staging,
+    static const struct { size_t page, line; } lengths[] = {
+        [CLOCKTOAD_LP2] = { CLOCKTOAD_LP2_PAGE_BYTES(LINES, SPACING), CLOCKTOAD_LP2_LINE_NUMBERS },
+        [CLOCKTOAD_6215] = { CLOCKTOAD_6215_PAGE_BYTES(LINES, SPACING), CLOCKTOAD_6215_LINE_NUMBERS },
+    };
+    r->page_len = lengths[model].page;
+    r->line_len = lengths[model].line;
+}
+
+static uint64_t open_library(struct reader *r, uint64_t model)
+{
+    lend(r, model);
+    return clocktoad_open(model, LINES, SPACING, r->state, CLOCKTOAD_STATE_WORDS, r->page, r->page_len,
+                          r->line, r->line_len, r->staging, sizeof r->staging,
                           r->store, sizeof r->store, font, sizeof font);
 }
 
-static uint64_t open_twin(struct reader *r)
+static uint64_t open_twin(struct reader *r, uint64_t model)
 {
-    return twin_open(LINES, SPACING, &r->twin, r->page, PAGE, r->line, CLOCKTOAD_LINE_NUMBERS,
+    lend(r, model);
+    return twin_open(model, LINES, SPACING, &r->twin, r->page, r->page_len, r->line, r->line_len,
                      r->staging, sizeof r->staging, r->store, sizeof r->store, font, sizeof font);
 }
 
 static uint64_t feed_library(struct reader *r, const uint8_t *piece, size_t length)
 {
-    return clocktoad_feed(r->state, CLOCKTOAD_STATE_WORDS, r->page, PAGE,
-                          r->line, CLOCKTOAD_LINE_NUMBERS, r->staging, sizeof r->staging,
+    return clocktoad_feed(r->state, CLOCKTOAD_STATE_WORDS, r->page, r->page_len,
+                          r->line, r->line_len, r->staging, sizeof r->staging,
                           r->store, sizeof r->store, font, sizeof font,
                           piece, length, r->report, CLOCKTOAD_REPORT_WORDS);
 }
 
 static uint64_t feed_twin(struct reader *r, const uint8_t *piece, size_t length)
 {
-    return twin_feed(&r->twin, r->page, PAGE, r->line, CLOCKTOAD_LINE_NUMBERS,
+    return twin_feed(&r->twin, r->page, r->page_len, r->line, r->line_len,
                      r->staging, sizeof r->staging, r->store, sizeof r->store, font, sizeof font,
                      piece, length, r->report);
 }
+
+static uint64_t due_library(const struct reader *r) { return clocktoad_page_due(r->state, CLOCKTOAD_STATE_WORDS); }
+
+static uint64_t due_twin(const struct reader *r) { return twin_page_due(&r->twin); }
 
 static uint64_t close_library(struct reader *r)
 {
@@ -69,6 +87,7 @@ static uint64_t close_library(struct reader *r)
 struct job {
     const char *name;
     void (*fill)(struct job *);
+    uint64_t model;
     uint8_t *bytes;
     size_t length, room;
 };
@@ -156,16 +175,21 @@ static void elongated(struct job *j)
         add_line(j, 66);
 }
 
+static void add_columns(struct job *j, unsigned columns)
+{
+    while (columns-- > 0) {
+        unsigned column = below(128) & below(128);
+        add(j, column);
+        if (column == ESC)
+            add(j, column);
+    }
+}
+
 static void plots(struct job *j)
 {
     while (!full(j)) {
         add_text(j, "\033d");
-        for (int k = 0; k < 1320; k++) {
-            unsigned column = below(128) & below(128);
-            add(j, column);
-            if (column == ESC)
-                add(j, column);
-        }
+        add_columns(j, 1320);
         add_text(j, "\033e\n");
     }
 }
@@ -267,6 +291,163 @@ static void mix(struct job *j)
     }
 }
 
+/* Jobs of a 6215. */
+
+static void text_6215(struct job *j)
+{
+    while (!full(j))
+        add_line(j, 136);
+}
+
+/* What a command sets: positions of a column, and columns of a cell, 0 for as many as before. */
+struct style {
+    const char *command;
+    unsigned step, columns;
+};
+
+static const struct style styles[] = {
+    { "\033>", 3, 0 },    { "\033?", 5, 0 },    { "\033[0w", 5, 20 },
+    { "\033[2w", 3, 20 }, { "\033[4w", 5, 10 }, { "\033[6w", 3, 10 },
+};
+
+static const struct style *add_style(struct job *j)
+{
+    const struct style *style = &styles[below(sizeof styles / sizeof *styles)];
+    add_text(j, style->command);
+    return style;
+}
+
+static void add_word(struct job *j, unsigned letters)
+{
+    while (letters-- > 0)
+        add(j, letter());
+    add(j, ' ');
+}
+
+static void pitch_6215(struct job *j)
+{
+    unsigned position = 0, columns = 10;
+    while (!full(j)) {
+        const struct style *style = add_style(j);
+        unsigned letters = 1 + below(10);
+        if (style->columns != 0)
+            columns = style->columns;
+        unsigned word = (letters + 1) * columns * style->step;
+        if (position + word > CLOCKTOAD_6215_ROW_POSITIONS) {
+            add(j, '\n');
+            position = 0;
+        }
+        add_word(j, letters);
+        position += word;
+    }
+}
+
+/* Right styles, and what is wrong after ESC [ wherever it stands. */
+static void add_bracket(struct job *j)
+{
+    static const char *const brackets[] = {
+        "0w", "2w", "4w", "6w", "004w", "6w", "4w", "4w", "0000000000000000000006w",
+        "1w", "3w", "5w", "7w", "8w", "w", "4;w", ";4w", ";w", "10w", "60w", "65540w", "4294967300w",
+        "0z", "3z", "8z", "z", "1;z", ";2z", ";;;z", "12z", "65537z", "18446744073709551617z",
+        "0r", "113r", ";0r", ";;0r", ";;113r", "9;8;7r", "9;9;10r", "65602;1;66r", ";;;r", "66;1;66;1r", "1;1;1;r",
+        "m", "4m", "1;2;3h", ";H", "4 w", "?4w", "-4w", "4:w", "4/w", "4W", "1Z", "R",
+        "5\n", "2\f", "2;\033", "6\177", "\200", "\377",
+    };
+    add_text(j, "\033[");
+    add_text(j, brackets[below(sizeof brackets / sizeof *brackets)]);
+}
+
+static void add_setting(struct job *j, unsigned number)
+{
+    char text[16];
+    if (below(8) == 0)
+        return; /* omitted */
+    snprintf(text, sizeof text, below(8) == 0 ? "%04u" : "%u", number);
+    add_text(j, text);
+}
+
+static void add_form(struct job *j)
+{
+    unsigned lines = below(4) == 0 ? 1 + below(112) : 60 + below(53), top = 1 + below(lines);
+    add_text(j, "\033[");
+    add_setting(j, lines);
+    add(j, ';');
+    add_setting(j, below(2) ? 1 : top);
+    add(j, ';');
+    add_setting(j, below(2) ? lines : top + below(lines - top + 1));
+    add(j, 'r');
+}
+
+/* In place three times of four, where the form feed is one. */
+static void add_form_change(struct job *j)
+{
+    if (below(4) > 0)
+        add(j, '\f');
+    switch (below(8)) {
+    case 0: add_text(j, "\033[1z"); break;
+    case 1: add_text(j, "\033[2z"); break;
+    case 2: add_text(j, "\033[r"); break;
+    case 3: add_text(j, "\033[66;1;66r"); break;
+    default: add_form(j); break;
+    }
+}
+
+static void add_plot_6215(struct job *j)
+{
+    bool condensed = below(2);
+    unsigned columns = below(40);
+    if (below(24) == 0)
+        columns = (condensed ? 2250 : 1345) + below(30); /* 2,266 or 1,360 fit */
+    add_text(j, condensed ? "\033>\033d" : "\033?\033d");
+    add_columns(j, columns);
+    add_text(j, below(4) ? "\033e" : "\033[4w\033>\033e\033[6wx");
+    add(j, below(2) ? '\n' : '\r');
+}
+
+/* About as many characters as a line has room for in its style. */
+static void add_full_line(struct job *j)
+{
+    static const struct { const char *style; unsigned room; } lines[] = {
+        { "\033[0w", 68 }, { "\033[2w", 113 }, { "\033[4w", 136 }, { "\033[6w", 226 },
+    };
+    unsigned k = below(4);
+    add_text(j, lines[k].style);
+    add_line(j, lines[k].room - 5 + below(12));
+}
+
+static void add_text_6215(struct job *j)
+{
+    for (unsigned words = below(8); words > 0; words--) {
+        if (below(8) == 0)
+            add_style(j);
+        add_word(j, 1 + below(12));
+    }
+    add(j, '\n');
+}
+
+static void mix_6215(struct job *j)
+{
+    while (!full(j)) {
+        switch (below(32)) {
+        case 0: add(j, 0x80 + below(128)); break;
+        case 1: add_tab_list(j); break;
+        case 2: case 3: add_full_line(j); break;
+        case 4: add_faulty_download(j); break;
+        case 5: add_ill_formed(j); break;
+        case 6: add_download(j, below(128), 1); break;
+        case 7: add_text(j, "\033c"); add(j, 0); break;
+        case 8: add_text(j, below(8) ? "\r" : "\f"); break;
+        case 9: add(j, '\v'); break;
+        case 10: case 11: case 12: add_escape(j); break;
+        case 13: add_text(j, "\033e"); add(j, below(32)); break;
+        case 14: case 15: case 16: add_bracket(j); break;
+        case 17: add_form_change(j); break;
+        case 18: add_plot_6215(j); break;
+        default: add_text_6215(j); break;
+        }
+    }
+}
+
 /* The two held against each other. */
 
 static void differ(const struct job *j, size_t piece, uint64_t place, const char *what)
@@ -277,14 +458,30 @@ static void differ(const struct job *j, size_t piece, uint64_t place, const char
 
 static void compare_memory(const struct job *j, size_t piece, uint64_t place, bool page)
 {
-    if (memcmp(library.line, twin.line, sizeof twin.line) != 0)
+    if (memcmp(library.line, twin.line, twin.line_len * sizeof *twin.line) != 0)
         differ(j, piece, place, "the line store");
     if (memcmp(library.staging, twin.staging, sizeof twin.staging) != 0)
         differ(j, piece, place, "the staging");
     if (memcmp(library.store, twin.store, sizeof twin.store) != 0)
         differ(j, piece, place, "the download store");
-    if (page && memcmp(library.page, twin.page, PAGE) != 0)
+    if (page && memcmp(library.page, twin.page, twin.page_len) != 0)
         differ(j, piece, place, "the page");
+}
+
+static void lend_blank(struct reader *r, uint64_t due)
+{
+    r->page_len = due;
+    memset(r->page, 0, due);
+}
+
+/* After a form. */
+static void lend_due(const struct job *j, size_t piece, uint64_t place)
+{
+    uint64_t due = due_library(&library);
+    if (due != due_twin(&twin))
+        differ(j, piece, place, "the page due");
+    lend_blank(&library, due);
+    lend_blank(&twin, due);
 }
 
 /* Feeds both up to a byte of the job; events are counted by answer. */
@@ -302,17 +499,15 @@ static void compare_piece(const struct job *j, size_t piece, size_t from, size_t
         events[answer]++;
         if (answer != 0)
             compare_memory(j, piece, from, answer == 1);
-        if (answer == 1) {
-            memset(library.page, 0, PAGE);
-            memset(twin.page, 0, PAGE);
-        }
+        if (answer == 1)
+            lend_due(j, piece, from);
     }
 }
 
 static void compare(const struct job *j, size_t piece)
 {
     uint64_t events[3] = { 0 };
-    if (open_library(&library) != 0 || open_twin(&twin) != 0)
+    if (open_library(&library, j->model) != 0 || open_twin(&twin, j->model) != 0)
         differ(j, piece, 0, "the opening");
     for (size_t from = 0; from < j->length; from += piece)
         compare_piece(j, piece, from, j->length - from < piece ? j->length : from + piece, events);
@@ -336,15 +531,18 @@ static double now(void)
 }
 
 /* Feeds bytes in pieces and returns how many were taken. One for each reader: no call by pointer. */
-#define DEFINE_PASS(name, feed) \
+#define DEFINE_PASS(name, feed, due) \
     static uint64_t name(struct reader *r, const uint8_t *bytes, size_t length, size_t piece) \
     { \
         uint64_t taken = 0; \
         for (size_t from = 0; from < length; from += piece) { \
             size_t at = from, to = length - from < piece ? length : from + piece; \
             while (at < to) { \
-                if (feed(r, bytes + at, to - at) > 2) \
+                uint64_t answer = feed(r, bytes + at, to - at); \
+                if (answer > 2) \
                     return 0; \
+                if (answer == 1) \
+                    r->page_len = due(r); \
                 at += r->report[0]; \
                 taken += r->report[0]; \
             } \
@@ -352,8 +550,8 @@ static double now(void)
         return taken; \
     }
 
-DEFINE_PASS(pass_library, feed_library)
-DEFINE_PASS(pass_twin, feed_twin)
+DEFINE_PASS(pass_library, feed_library, due_library)
+DEFINE_PASS(pass_twin, feed_twin, due_twin)
 
 static void must(bool ok)
 {
@@ -365,7 +563,7 @@ static void must(bool ok)
 
 static double time_library(const struct job *j, size_t piece)
 {
-    must(open_library(&library) == 0);
+    must(open_library(&library, j->model) == 0);
     double start = now();
     must(pass_library(&library, j->bytes, j->length, piece) == j->length);
     return now() - start;
@@ -373,7 +571,7 @@ static double time_library(const struct job *j, size_t piece)
 
 static double time_twin(const struct job *j, size_t piece)
 {
-    must(open_twin(&twin) == 0);
+    must(open_twin(&twin, j->model) == 0);
     double start = now();
     must(pass_twin(&twin, j->bytes, j->length, piece) == j->length);
     return now() - start;
@@ -413,7 +611,7 @@ static void growth(const struct job *j, uint64_t length, int runs)
     double ours[RUNS_MAX], theirs[RUNS_MAX];
     size_t unit = j->length - j->length % (DENSE + 1);
     for (int k = 0; k < runs; k++) {
-        must(open_library(&library) == 0 && open_twin(&twin) == 0);
+        must(open_library(&library, j->model) == 0 && open_twin(&twin, j->model) == 0);
         double start = now();
         for (uint64_t left = length, n; left > 0; left -= n) {
             n = left < unit ? left : unit;
@@ -434,7 +632,7 @@ static void growth(const struct job *j, uint64_t length, int runs)
 static void empty_pieces(long calls, int runs)
 {
     double ours[RUNS_MAX], theirs[RUNS_MAX];
-    must(open_library(&library) == 0 && open_twin(&twin) == 0);
+    must(open_library(&library, CLOCKTOAD_LP2) == 0 && open_twin(&twin, CLOCKTOAD_LP2) == 0);
     for (int k = 0; k < runs; k++) {
         double start = now();
         for (long n = 0; n < calls; n++)
@@ -454,6 +652,9 @@ static struct job jobs[] = {
     { .name = "compressed", .fill = compressed }, { .name = "elongated", .fill = elongated },
     { .name = "plots", .fill = plots },         { .name = "downloads", .fill = downloads },
     { .name = "mix", .fill = mix },
+    { .name = "6215 text", .fill = text_6215, .model = CLOCKTOAD_6215 },
+    { .name = "6215 pitch", .fill = pitch_6215, .model = CLOCKTOAD_6215 },
+    { .name = "6215 mix", .fill = mix_6215, .model = CLOCKTOAD_6215 },
 };
 enum { JOBS = sizeof jobs / sizeof *jobs };
 

@@ -3,16 +3,38 @@
 #include <stdbool.h>
 #include <string.h>
 
+#if __BYTE_ORDER__ != __ORDER_LITTLE_ENDIAN__
+#error "a 6215's line is struck by words that hold its first position lowest"
+#endif
+
 enum {
-    ROW_BYTES = 825,
+    ROW_BYTES = 825, /* of an LP2 */
     COLUMNS = 2200,
+    ROW_BYTES_6215 = 850,
+    POSITIONS_6215 = 6800,
+    LINES_MAX_6215 = 112,
     STORE = 2048,
     GLYPH = 16,
     WIRES = 9,
+    NUMBER_MAX = 9999, /* of ESC [; no command takes it, or one above */
     ESC = 0x1B
 };
 
 #define JOB_LIMIT UINT32_MAX
+
+/* For what is compiled once for each model or pitch, with its numbers as constants. */
+#define INLINE static inline __attribute__((always_inline))
+
+/* For a 6215's loops, which stand by themselves: they take no register from an LP2's. */
+#define APART static __attribute__((noinline))
+
+struct model {
+    uint32_t row_bytes, line_numbers, lines_max;
+    uint32_t commands; /* its own are those below */
+};
+
+static const struct model model_lp2 = { ROW_BYTES, COLUMNS, 99, TWIN_BRACKET };
+static const struct model model_6215 = { ROW_BYTES_6215, POSITIONS_6215, LINES_MAX_6215, TWIN_COMMANDS };
 
 /* One call's view of the lent memory, and where it stands in the piece. */
 struct call {
@@ -31,41 +53,65 @@ struct call {
 /* What a byte, or a run of bytes, leads to. */
 enum outcome { GO_ON = 0, FORM = 1, NOTE = 2 };
 
+static bool is_lp2(const struct twin *s) { return s->model == TWIN_LP2; }
+
 static uint32_t line_rows(uint32_t spacing) { return spacing == 6 ? 12 : 9; }
 
+/* Positions of an LP2's line, which are columns, and of one column of a 6215. */
 static uint32_t width(const struct twin *s) { return s->compressed ? 2200 : 1320; }
+
+static uint32_t step(const struct twin *s) { return s->compressed ? 3 : 5; }
 
 static uint32_t current_line(const struct twin *s) { return 1 + s->row / line_rows(s->spacing); }
 
+static uint32_t first_row(const struct twin *s) { return (s->top - 1) * line_rows(s->spacing); }
+
+/* Lines 1..L, so neither bit 0 nor one above L. */
 static bool tabs_fit(const struct twin *s)
 {
-    /* Lines 1..L, so neither bit 0 nor one above L. */
-    uint64_t low = s->lines >= 63 ? ~UINT64_C(0) : (UINT64_C(2) << s->lines) - 1;
-    uint64_t high = s->lines >= 64 ? (UINT64_C(2) << (s->lines - 64)) - 1 : 0;
-    return !(s->tabs[0] & ~(low & ~UINT64_C(1))) && !(s->tabs[1] & ~high);
+    uint64_t above = s->lines < 64 ? s->tabs[1] | s->tabs[0] >> s->lines >> 1 : s->tabs[1] >> (s->lines - 64) >> 1;
+    return !(above | (s->tabs[0] & 1));
 }
 
-static bool sound(const struct twin *s)
+INLINE bool sound_but_for_margins(const struct twin *s, const struct model *model, uint32_t positions)
 {
-    if (s->lines < 1 || s->lines > 99 || (s->spacing != 6 && s->spacing != 8))
+    if (s->lines < 1 || s->lines > model->lines_max || (s->spacing != 6 && s->spacing != 8))
         return false;
-    if (s->row > s->lines * line_rows(s->spacing) - WIRES || s->column > width(s) || !tabs_fit(s))
+    if (s->row > s->bottom * line_rows(s->spacing) - WIRES || s->column > positions || !tabs_fit(s))
         return false;
     if (s->count > 65535 || s->address > 65535 || s->taken > s->count)
         return false;
-    if (s->command >= TWIN_COMMANDS || (s->command != TWIN_NONE && s->place >= s->length))
+    if (s->command >= model->commands || (s->command != TWIN_NONE && s->place >= s->length))
         return false;
     if (s->fresh && (s->column != 0 || s->plot_line))
         return false;
     return !s->plot_mode || (s->plot_line && s->command <= TWIN_ESC);
 }
 
-static uint64_t wrong_length(const struct twin *s, size_t page_len, size_t line_len,
+INLINE bool sound_lp2(const struct twin *s)
+{
+    return s->top == 1 && s->bottom == s->lines && sound_but_for_margins(s, &model_lp2, width(s));
+}
+
+INLINE bool sound_6215(const struct twin *s)
+{
+    return s->model == TWIN_6215 && s->top >= 1 && s->top <= s->bottom && s->bottom <= s->lines &&
+           s->row >= first_row(s) && sound_but_for_margins(s, &model_6215, POSITIONS_6215);
+}
+
+static bool sound(const struct twin *s) { return is_lp2(s) ? sound_lp2(s) : sound_6215(s); }
+
+INLINE size_t page_bytes(const struct twin *s, const struct model *model)
+{
+    return (size_t)s->lines * line_rows(s->spacing) * model->row_bytes;
+}
+
+INLINE uint64_t wrong_length(const struct twin *s, const struct model *model, size_t page_len, size_t line_len,
                              size_t staging_len, size_t store_len, size_t font_len)
 {
-    if (page_len != (size_t)s->lines * line_rows(s->spacing) * ROW_BYTES)
+    if (page_len != page_bytes(s, model))
         return 11;
-    if (line_len != COLUMNS)
+    if (line_len != model->line_numbers)
         return 12;
     if (staging_len != STORE)
         return 13;
@@ -182,14 +228,91 @@ static void strike_compressed(uint8_t *at, const uint16_t *line)
     }
 }
 
+/* Sixteen positions of a 6215 fill two bytes of a row. */
+static void blacken_two(uint8_t *at, uint64_t dots)
+{
+    uint16_t page;
+    memcpy(&page, at, 2);
+    page |= (uint16_t)dots;
+    memcpy(at, &page, 2);
+}
+
+static void blacken_four_rows(uint8_t *at, uint64_t rows)
+{
+    blacken_two(at, rows);
+    blacken_two(at + ROW_BYTES_6215, rows >> 16);
+    blacken_two(at + 2 * ROW_BYTES_6215, rows >> 32);
+    blacken_two(at + 3 * ROW_BYTES_6215, rows >> 48);
+}
+
+static uint64_t four_positions(const uint16_t *line)
+{
+    uint64_t four;
+    memcpy(&four, line, sizeof four);
+    return four;
+}
+
+/* Wire 1 of sixteen positions, four in each of a to d: the two bytes of its row. */
+INLINE uint64_t top_wire_of_sixteen(uint64_t a, uint64_t b, uint64_t c, uint64_t d)
+{
+    const uint64_t low = UINT64_C(0x0001000100010001), high = low << 8;
+    uint64_t x = ((a >> 8 & low) | (c & high)) << 7 | ((b >> 8 & low) | (d & high)) << 3;
+    x |= x >> 17;
+    return x | x >> 34;
+}
+
+/* Exchanges two bits of a position, which tell its place in the word, with two of a wire. */
+INLINE uint64_t turn(uint64_t x)
+{
+    uint64_t t = (x ^ (x >> 34)) & UINT64_C(0x0000000033333333);
+    x ^= t ^ (t << 34);
+    t = (x ^ (x >> 17)) & UINT64_C(0x0000555500005555);
+    return x ^ t ^ (t << 17);
+}
+
+/*
+ * Wires 2 to 9 come out as two words of four rows, two bytes each. Of a position's four bits the
+ * highest tells its byte from the start, the next is exchanged between the words and two within.
+ */
+INLINE void strike_sixteen(uint8_t *at, uint64_t a, uint64_t b, uint64_t c, uint64_t d)
+{
+    const uint64_t low = UINT64_C(0x00FF00FF00FF00FF);
+    uint64_t first = (a & low) | (c & low) << 8, second = (b & low) | (d & low) << 8;
+    uint64_t t = (first ^ (second >> 4)) & UINT64_C(0x0F0F0F0F0F0F0F0F);
+    blacken_two(at, top_wire_of_sixteen(a, b, c, d));
+    blacken_four_rows(at + ROW_BYTES_6215, turn(first ^ t));
+    blacken_four_rows(at + 5 * ROW_BYTES_6215, turn(second ^ (t << 4)));
+}
+
+/* Strikes and clears what stands before `end`; from there on the store holds zeros. */
+APART void strike_6215(uint8_t *at, uint16_t *line, uint32_t end)
+{
+    for (const uint16_t *stop = line + end; line < stop; line += 16, at += 2) {
+        uint64_t a = four_positions(line), b = four_positions(line + 4);
+        uint64_t c = four_positions(line + 8), d = four_positions(line + 12);
+        if (!(a | b | c | d))
+            continue;
+        memset(line, 0, 16 * sizeof *line);
+        strike_sixteen(at, a, b, c, d);
+    }
+}
+
+static void strike_lp2(uint8_t *at, uint16_t *line, bool compressed)
+{
+    if (compressed)
+        strike_compressed(at, line);
+    else
+        strike_normal(at, line);
+    memset(line, 0, COLUMNS * sizeof *line);
+}
+
 static void strike(struct call *c)
 {
-    uint8_t *top = c->page + (size_t)c->s->row * ROW_BYTES;
-    if (c->s->compressed)
-        strike_compressed(top, c->line);
+    const struct twin *s = c->s;
+    if (is_lp2(s))
+        strike_lp2(c->page + (size_t)s->row * ROW_BYTES, c->line, s->compressed);
     else
-        strike_normal(top, c->line);
-    memset(c->line, 0, COLUMNS * sizeof *c->line);
+        strike_6215(c->page + (size_t)s->row * ROW_BYTES_6215, c->line, s->column);
 }
 
 static void fresh_line(struct twin *s)
@@ -199,25 +322,30 @@ static void fresh_line(struct twin *s)
     s->plot_line = 0;
 }
 
-static enum outcome newline(struct call *c)
+static enum outcome next_form(struct twin *s)
 {
-    struct twin *s = c->s;
-    uint32_t rows = line_rows(s->spacing);
-    s->row += s->plot_line ? 7 : rows;
-    if (s->row + WIRES <= s->lines * rows)
-        return GO_ON;
-    s->row = 0;
+    s->row = first_row(s);
     return FORM;
 }
 
-/* The first tabbed line from `from` on, 0 if none. */
+static enum outcome newline(struct twin *s)
+{
+    uint32_t rows = line_rows(s->spacing);
+    s->row += s->plot_line ? 7 : rows;
+    return s->row + WIRES <= s->bottom * rows ? GO_ON : next_form(s);
+}
+
+/* The first tabbed line from `from` to the bottom margin, 0 if none. */
 static uint32_t tab_from(const struct twin *s, uint32_t from)
 {
     uint64_t low = from < 64 ? s->tabs[0] >> from << from : 0;
     uint64_t high = from < 64 ? s->tabs[1] : s->tabs[1] >> (from - 64) << (from - 64);
+    uint32_t tab = 0;
     if (low)
-        return (uint32_t)__builtin_ctzll(low);
-    return high ? 64 + (uint32_t)__builtin_ctzll(high) : 0;
+        tab = (uint32_t)__builtin_ctzll(low);
+    else if (high)
+        tab = 64 + (uint32_t)__builtin_ctzll(high);
+    return tab <= s->bottom ? tab : 0;
 }
 
 static enum outcome vertical_tab(struct twin *s)
@@ -225,7 +353,7 @@ static enum outcome vertical_tab(struct twin *s)
     enum outcome outcome = GO_ON;
     uint32_t to = tab_from(s, current_line(s) + 1);
     if (!to) {
-        to = tab_from(s, 1);
+        to = tab_from(s, s->top);
         if (!to)
             return GO_ON;
         outcome = FORM;
@@ -240,14 +368,13 @@ static enum outcome terminate(struct call *c, uint8_t byte)
     strike(c);
     switch (byte) {
     case 0x0A:
-        outcome = newline(c);
+        outcome = newline(c->s);
         break;
     case 0x0B:
         outcome = vertical_tab(c->s);
         break;
     case 0x0C:
-        c->s->row = 0;
-        outcome = FORM;
+        outcome = next_form(c->s);
         break;
     }
     fresh_line(c->s);
@@ -261,19 +388,59 @@ static unsigned glyph_column(const uint8_t *glyph, int k)
     return (unsigned)(glyph[2 * k + 2] << 8 | glyph[2 * k + 3]) & 511;
 }
 
-static void enter(uint16_t *cell, const uint8_t *glyph)
+INLINE void enter(uint16_t *cell, const uint8_t *glyph, int step)
 {
     for (int k = 0; k < 7; k++)
-        cell[k] |= (uint16_t)glyph_column(glyph, k);
+        cell[k * step] |= (uint16_t)glyph_column(glyph, k);
 }
 
-static void enter_elongated(uint16_t *cell, const uint8_t *glyph)
+INLINE void enter_elongated(uint16_t *cell, const uint8_t *glyph, int step)
 {
     for (int k = 0; k < 7; k++) {
         uint16_t wires = (uint16_t)glyph_column(glyph, k);
-        cell[2 * k] |= wires;
-        cell[2 * k + 1] |= wires;
+        cell[2 * k * step] |= wires;
+        cell[(2 * k + 1) * step] |= wires;
     }
+}
+
+/* Enters one character; a column takes `step` positions. */
+INLINE void enter_character(struct twin *s, uint16_t *line, const uint8_t *glyph, uint32_t cell, uint32_t step)
+{
+    uint16_t *to = line + s->column;
+    if (s->elongated)
+        enter_elongated(to, glyph, (int)step);
+    else
+        enter(to, glyph, (int)step);
+    if (s->underscore)
+        for (uint32_t k = 0; k < cell; k += 2 * step)
+            to[k] |= 1;
+    s->column += cell;
+    s->fresh = 0;
+}
+
+/* Enters the printing bytes that come next, up to one that has no room, and returns where it stopped. */
+INLINE const uint8_t *enter_run(struct twin *s, uint16_t *line, const uint8_t *glyphs,
+                                const uint8_t *at, const uint8_t *end, uint32_t step)
+{
+    const uint32_t cell = s->elongated ? 20 * step : 10 * step;
+    for (; at < end && prints(*at) && s->column + cell <= POSITIONS_6215; at++)
+        enter_character(s, line, glyphs + *at * GLYPH, cell, step);
+    return at;
+}
+
+APART const uint8_t *enter_run_6215(struct twin *s, uint16_t *line, const uint8_t *glyphs,
+                                    const uint8_t *at, const uint8_t *end)
+{
+    return s->compressed ? enter_run(s, line, glyphs, at, end, 3) : enter_run(s, line, glyphs, at, end, 5);
+}
+
+static enum outcome print_6215(struct call *c, const uint8_t *glyphs)
+{
+    c->at = enter_run_6215(c->s, c->line, glyphs, c->at, c->end);
+    if (c->at == c->end || !prints(*c->at))
+        return GO_ON;
+    c->at++;
+    return note(c, 44, place_of(c, c->at - 1));
 }
 
 /* Takes the printing bytes that come next, at least one. */
@@ -286,20 +453,13 @@ static enum outcome print(struct call *c)
         c->at++;
         return note(c, 46, place_of(c, c->at - 1));
     }
+    if (!is_lp2(s))
+        return print_6215(c, glyphs);
     do {
         uint8_t byte = *c->at++;
         if (s->column + cell > columns)
             return note(c, 44, place_of(c, c->at - 1));
-        uint16_t *to = c->line + s->column;
-        if (s->elongated)
-            enter_elongated(to, glyphs + byte * GLYPH);
-        else
-            enter(to, glyphs + byte * GLYPH);
-        if (s->underscore)
-            for (uint32_t k = 0; k < cell; k += 2)
-                to[k] |= 1;
-        s->column += cell;
-        s->fresh = 0;
+        enter_character(s, c->line, glyphs + byte * GLYPH, cell, 1);
     } while (c->at < c->end && prints(*c->at));
     return GO_ON;
 }
@@ -328,34 +488,57 @@ static enum outcome text(struct call *c)
     }
 }
 
-static enum outcome plot_column(struct call *c, uint8_t value, uint32_t place)
+INLINE bool plot_column(struct twin *s, uint16_t *line, uint8_t value, uint32_t step, uint32_t positions)
 {
-    if (c->s->column >= width(c->s))
-        return note(c, 44, place);
-    c->line[c->s->column++] |= value;
-    return GO_ON;
+    if (s->column + step > positions)
+        return false;
+    line[s->column] |= value;
+    s->column += step;
+    return true;
+}
+
+/* Enters plotted columns up to one that has no room, or a byte that is none, and returns where it stopped. */
+INLINE const uint8_t *plot_run(struct twin *s, uint16_t *line, const uint8_t *at, const uint8_t *end,
+                               uint32_t step, uint32_t positions)
+{
+    while (at < end && *at < 0x80 && *at != ESC && plot_column(s, line, *at, step, positions))
+        at++;
+    return at;
+}
+
+APART const uint8_t *plot_run_6215(struct twin *s, uint16_t *line, const uint8_t *at, const uint8_t *end)
+{
+    return plot_run(s, line, at, end, step(s), POSITIONS_6215);
 }
 
 static enum outcome plot(struct call *c)
 {
-    enum outcome outcome = GO_ON;
-    while (outcome == GO_ON && c->at < c->end) {
-        uint8_t byte = *c->at++;
-        uint32_t place = place_of(c, c->at - 1);
-        if (byte == ESC) {
-            begin_command(c);
-            break;
-        }
-        outcome = byte < 0x80 ? plot_column(c, byte, place) : note(c, 46, place);
-    }
-    return outcome;
+    struct twin *s = c->s;
+    if (is_lp2(s))
+        c->at = plot_run(s, c->line, c->at, c->end, 1, width(s));
+    else
+        c->at = plot_run_6215(s, c->line, c->at, c->end);
+    if (c->at == c->end)
+        return GO_ON;
+    uint8_t byte = *c->at++;
+    if (byte != ESC)
+        return note(c, byte < 0x80 ? 44 : 46, place_of(c, c->at - 1));
+    begin_command(c);
+    return GO_ON;
+}
+
+static bool plot_esc(struct twin *s, uint16_t *line)
+{
+    if (is_lp2(s))
+        return plot_column(s, line, ESC, 1, width(s));
+    return plot_column(s, line, ESC, step(s), POSITIONS_6215);
 }
 
 static enum outcome plot_escape(struct call *c, uint8_t byte)
 {
     c->s->command = TWIN_NONE;
     if (byte == ESC)
-        return plot_column(c, ESC, c->s->place);
+        return plot_esc(c->s, c->line) ? GO_ON : fault(c, 44);
     if (byte != 'e')
         return fault(c, 46);
     c->s->plot_mode = 0;
@@ -368,9 +551,19 @@ static void clear_tab(struct twin *s, uint32_t line) { s->tabs[line / 64] &= ~(U
 
 static void clear_tabs(struct twin *s) { s->tabs[0] = s->tabs[1] = 0; }
 
+static void clear_tabs_past(struct twin *s, uint32_t lines)
+{
+    if (lines < 64) {
+        s->tabs[0] &= ~(~UINT64_C(1) << lines);
+        s->tabs[1] = 0;
+    } else {
+        s->tabs[1] &= ~(~UINT64_C(1) << (lines - 64));
+    }
+}
+
 static enum outcome set_pitch(struct call *c, uint8_t compressed)
 {
-    if (!c->s->fresh)
+    if (is_lp2(c->s) && !c->s->fresh)
         return fault(c, 46);
     c->s->compressed = compressed;
     return GO_ON;
@@ -383,6 +576,17 @@ static enum outcome begin_plot(struct call *c)
     c->s->fresh = 0;
     c->s->plot_line = 1;
     c->s->plot_mode = 1;
+    return GO_ON;
+}
+
+static enum outcome begin_bracket(struct call *c)
+{
+    struct twin *s = c->s;
+    if (is_lp2(s))
+        return fault(c, 42);
+    s->command = TWIN_BRACKET;
+    s->semicolons = 0;
+    s->number[0] = s->number[1] = s->number[2] = 0;
     return GO_ON;
 }
 
@@ -401,6 +605,7 @@ static enum outcome escape(struct call *c, uint8_t byte)
     case '>': return set_pitch(c, 1);
     case '?': return set_pitch(c, 0);
     case 'd': return begin_plot(c);
+    case '[': return begin_bracket(c);
     case 'e': break;
     case 'c': s->command = TWIN_RESET; break;
     case 'Y': s->command = TWIN_COUNT_HIGH; break;
@@ -411,13 +616,21 @@ static enum outcome escape(struct call *c, uint8_t byte)
     return GO_ON;
 }
 
+static void clear_line(const struct twin *s, uint16_t *line)
+{
+    if (is_lp2(s))
+        memset(line, 0, COLUMNS * sizeof *line);
+    else
+        memset(line, 0, s->column * sizeof *line);
+}
+
 static enum outcome reset(struct call *c, uint8_t byte)
 {
     struct twin *s = c->s;
     if (byte != 0)
         return fault(c, 46);
     s->command = TWIN_NONE;
-    memset(c->line, 0, COLUMNS * sizeof *c->line);
+    clear_line(s, c->line);
     memset(c->store, 0, STORE);
     clear_tabs(s);
     s->compressed = s->elongated = s->underscore = s->downloaded = 0;
@@ -502,11 +715,96 @@ static void begin_download(struct twin *s, uint8_t count_high)
     s->sum = 0;
 }
 
+/* ESC [ with no semicolon and one number: that number. Else a number that no command takes. */
+static uint32_t only_number(const struct twin *s)
+{
+    return s->semicolons == 0 && s->number[0] != 0 ? s->number[0] - 1u : NUMBER_MAX;
+}
+
+static uint32_t number_or(const struct twin *s, int k, uint32_t setting)
+{
+    return s->number[k] != 0 ? s->number[k] - 1u : setting;
+}
+
+/* 0, 2, 4 and 6: bit 1 is set for compressed, bit 2 for not elongated. */
+static enum outcome set_style(struct call *c)
+{
+    uint32_t style = only_number(c->s);
+    if (style > 6 || style % 2 != 0)
+        return fault(c, 46);
+    c->s->compressed = (style & 2) != 0;
+    c->s->elongated = (style & 4) == 0;
+    return GO_ON;
+}
+
+static bool at_form_start(const struct twin *s) { return s->fresh && s->row == first_row(s); }
+
+static enum outcome set_spacing(struct call *c)
+{
+    uint32_t spacing = only_number(c->s);
+    if (spacing != 1 && spacing != 2)
+        return fault(c, 46);
+    if (!at_form_start(c->s))
+        return fault(c, 43);
+    c->s->spacing = spacing == 1 ? 6 : 8;
+    return next_form(c->s);
+}
+
+static enum outcome set_form(struct call *c)
+{
+    struct twin *s = c->s;
+    uint32_t lines = number_or(s, 0, s->lines), top = number_or(s, 1, s->top), bottom = number_or(s, 2, s->bottom);
+    if (s->semicolons > 2 || top < 1 || top > bottom || bottom > lines || lines > LINES_MAX_6215 || !at_form_start(s))
+        return fault(c, 43);
+    s->lines = lines;
+    s->top = top;
+    s->bottom = bottom;
+    clear_tabs_past(s, lines);
+    return next_form(s);
+}
+
+static enum outcome end_bracket(struct call *c, uint8_t byte)
+{
+    c->s->command = TWIN_NONE;
+    switch (byte) {
+    case 'w': return set_style(c);
+    case 'r': return set_form(c);
+    case 'z': return set_spacing(c);
+    default: return fault(c, 42);
+    }
+}
+
+static void add_digit(struct twin *s, uint32_t digit)
+{
+    if (s->semicolons > 2)
+        return;
+    uint32_t number = number_or(s, s->semicolons, 0) * 10 + digit;
+    s->number[s->semicolons] = (uint16_t)((number < NUMBER_MAX ? number : NUMBER_MAX) + 1);
+}
+
+/* Takes digits and semicolons up to the piece's end, or through the byte that ends the command. */
+static enum outcome bracket(struct call *c)
+{
+    struct twin *s = c->s;
+    while (c->at < c->end) {
+        uint8_t byte = *c->at++;
+        if (byte >= '0' && byte <= '9')
+            add_digit(s, byte - (uint32_t)'0');
+        else if (byte != ';')
+            return end_bracket(c, byte);
+        else if (s->semicolons < 3)
+            s->semicolons++;
+    }
+    return GO_ON;
+}
+
 static enum outcome command(struct call *c)
 {
     struct twin *s = c->s;
     if (s->command == TWIN_PAYLOAD)
         return payload(c);
+    if (s->command == TWIN_BRACKET)
+        return bracket(c);
     uint8_t byte = *c->at++;
     switch (s->command) {
     case TWIN_ESC: return s->plot_mode ? plot_escape(c, byte) : escape(c, byte);
@@ -523,19 +821,24 @@ static enum outcome command(struct call *c)
     return GO_ON;
 }
 
-uint64_t twin_open(uint64_t lines, uint64_t spacing, struct twin *state,
+uint64_t twin_open(uint64_t model, uint64_t lines, uint64_t spacing, struct twin *state,
                    uint8_t *page, size_t page_len, uint16_t *line, size_t line_len,
                    uint8_t *staging, size_t staging_len, uint8_t *store, size_t store_len,
                    const uint8_t *font, size_t font_len)
 {
     (void)font;
-    memset(state, 0, sizeof *state);
-    if (lines < 1 || lines > 99)
+    const struct model *chosen = model == TWIN_6215 ? &model_6215 : &model_lp2;
+    struct twin opened = { .model = model == TWIN_6215 ? TWIN_6215 : TWIN_LP2, .top = 1, .fresh = 1 };
+    *state = opened; /* shut, with no lines, until nothing is refused */
+    if (model >= TWIN_MODELS)
+        return 23;
+    if (lines < 1 || lines > chosen->lines_max)
         return 18;
     if (spacing != 6 && spacing != 8)
         return 19;
-    struct twin opened = { .lines = (uint32_t)lines, .spacing = (uint32_t)spacing, .fresh = 1 };
-    uint64_t refusal = wrong_length(&opened, page_len, line_len, staging_len, store_len, font_len);
+    opened.lines = opened.bottom = (uint32_t)lines;
+    opened.spacing = (uint32_t)spacing;
+    uint64_t refusal = wrong_length(&opened, chosen, page_len, line_len, staging_len, store_len, font_len);
     if (refusal)
         return refusal;
     memset(page, 0, page_len);
@@ -552,9 +855,11 @@ uint64_t twin_feed(struct twin *state,
                    const uint8_t *font, size_t font_len,
                    const uint8_t *piece, size_t piece_len, uint64_t report[4])
 {
-    if (!sound(state))
-        return 10;
-    uint64_t refusal = wrong_length(state, page_len, line_len, staging_len, store_len, font_len);
+    uint64_t refusal = 10;
+    if (is_lp2(state) && sound_lp2(state))
+        refusal = wrong_length(state, &model_lp2, page_len, line_len, staging_len, store_len, font_len);
+    else if (sound_6215(state))
+        refusal = wrong_length(state, &model_6215, page_len, line_len, staging_len, store_len, font_len);
     if (refusal)
         return refusal;
     const size_t room = JOB_LIMIT - state->length;
@@ -586,4 +891,9 @@ uint64_t twin_close(const struct twin *state, uint64_t report[4])
     if (unfinished)
         return 2;
     return state->fresh ? 0 : 1;
+}
+
+uint64_t twin_page_due(const struct twin *state)
+{
+    return sound(state) ? page_bytes(state, is_lp2(state) ? &model_lp2 : &model_6215) : 0;
 }
