@@ -121,19 +121,12 @@ pub fn new_printer(model: Model, form: Form) -> Printer
     }
 }
 
-// The shut state.
-pub fn shut(model: Model) -> Printer
-    ensures { λ r. ⌜ r ≡ shut model ⌝ }
-{
-    new_printer(model, new_form(0, 0))
-}
-
 // A refused opening, with the shut state.
 pub fn unopened(model: Model, answer: Answer) -> Opened
     ensures { λ r. ⌜ r ≡ record { printer = shut model; answer = answer } ⌝ }
 {
     Opened {
-        printer: shut(model),
+        printer: new_printer(model, new_form(0, 0)),
         answer,
     }
 }

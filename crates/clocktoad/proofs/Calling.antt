@@ -10,11 +10,12 @@ use lib.ListN.{length}
 use Rattle.sheet.specs.declared.Model.{Model}
 use Rattle.sheet.specs.declared.Model.the-variants.{Lp2}
 use Rattle.sheet.specs.Edition.{Edition, described}
+use Rattle.sheet.specs.Form.{new-form}
 use Rattle.printer.specs.declared.Closing.{Closing}
 use Rattle.printer.specs.declared.Printer.{Printer}
 use Rattle.printer.specs.Closing.{closing}
 use Rattle.printer.specs.Given.{machine}
-use Rattle.printer.specs.Machine.{Machine, edition-of, shut}
+use Rattle.printer.specs.Machine.{Machine, edition-of, new-printer, shut}
 use Rattle.printer.specs.Sound.{sound}
 use Rattle.protocol.specs.declared.Answer.{Answer}
 use Rattle.protocol.specs.declared.Answer.the-variants.{Done, Finished, Noted, JobFull, Unsound, Misfit, WrongLines, WrongSpacing}
@@ -25,8 +26,8 @@ use Rattle.protocol.specs.declared.Fit.{Fit}
 use Rattle.protocol.specs.declared.Fit.the-variants.{Right, Wrong}
 use Rattle.protocol.specs.declared.Lent as lent
 use Rattle.protocol.specs.Calls.{Feeding, Opening, feed-fitted, feeding, fit, opening, page-due}
-use Rattle.protocol.proofs.Answering.{taking-heeds}
-use Rattle.protocol.proofs.Ways.{feed-misfit, feed-unsound}
+use Rattle.protocol.proofs.Answering.{opening-refused, taking-heeds}
+use Rattle.protocol.proofs.Ways.{feed-misfit, feed-unsound, open-admitted}
 use Rattle.clocktoad.specs.Calls.{Called, Closed, called, close-call, closing-report, closing-words, feed-call, feeding-report, feeding-words}
 use Rattle.clocktoad.specs.Calls.{due-call, model-call, of-model, open-call, opening-words, refused-or, report-size, shut-words}
 use Rattle.words.specs.Words.{is-model, is-state, model-of, state-of, state-size, state-words}
@@ -45,7 +46,7 @@ abbrev left-alone : Lent → ℕ → List ℕ → Called
 left-alone x number told = called number (x .state) (x .page) (x .line) (x .staging) (x .store) told
 
 -- words that take the place of others are a state where those are as many as one has
-abbrev InPlace : List ℕ → List ℕ → Type 0
+abbrev pub InPlace : List ℕ → List ℕ → Type 0
 InPlace state words = length state ≡ state-size → is-state words ≡ true
 
 module _ (w : Model) (lines spacing : ℕ) (x : Lent) where
@@ -53,13 +54,29 @@ module _ (w : Model) (lines spacing : ℕ) (x : Lent) where
   opens-as = opening w lines spacing (x .font) (machine (shut w) (x .page) (x .line) (x .staging) (x .store))
 
   -- what a model's opening is to give, and a state with it
-  abbrev Opens : Called → Type 0
+  abbrev pub Opens : Called → Type 0
   Opens g = (g ≡ model-call w lines spacing (x .font) (x .state) (x .page) (x .line) (x .staging) (x .store)) × InPlace (x .state) (g .state)
 
   pub open-unkept : {number : ℕ} {a : Answer} → (length (x .state) ≡ state-size → ⊥) → number ≡ refused-or 21 a → a ≡ opens-as .answer
       → Opens (left-alone x number [])
   unfolding model-call
   open-unkept n r e = (rw (ne-eqb (length (x .state)) state-size n, r, e), λ l. absurd (n l))
+
+  -- the words of the shut state are those of a refused opening, and of one that is not those of a job just opened
+  pub shut-given : {words : List ℕ} (o : Opening) → o ≡ opens-as → refusal (o .answer) ≡ true
+      → (words ≡ state-words (shut w)) × (is-state words ≡ true) → (words ≡ state-words (o .machine .printer)) × (is-state words ≡ true)
+  shut-given o e r g =
+      let m : Machine = machine (shut w) (x .page) (x .line) (x .staging) (x .store) in
+      let gone = opening-refused w lines spacing (x .font) m (ap (λ (q : Opening). refusal (q .answer)) (sym e) ∙ r) in
+      (g .0 ∙ sym (ap (λ (n : Machine). state-words (n .printer)) (ap (λ (q : Opening). q .machine) e ∙ gone)), g .1)
+
+  pub new-given : {words : List ℕ} (o : Opening) → o ≡ opens-as → refusal (o .answer) ≡ false
+      → (words ≡ state-words (new-printer w (new-form lines spacing))) × (is-state words ≡ true)
+      → (words ≡ state-words (o .machine .printer)) × (is-state words ≡ true)
+  new-given o e r g =
+      let m : Machine = machine (shut w) (x .page) (x .line) (x .staging) (x .store) in
+      let new = open-admitted w lines spacing (x .font) m (ap (λ (q : Opening). q .answer) e) r .opens in
+      (g .0 ∙ ap (λ (q : Opening). state-words (q .machine .printer)) (new ∙ sym e), g .1)
 
   pub opens : (o : Opening) {words : List ℕ} {number : ℕ} → length (x .state) ≡ state-size
       → o ≡ opens-as
@@ -78,10 +95,9 @@ module _ (state : List ℕ) where
   unfolding shut-words
   shut-kept n = (rw (ne-eqb (length state) state-size n), λ l. absurd (n l))
 
-  pub shut-put : {p : Printer} {words : List ℕ} → length state ≡ state-size → p ≡ shut Lp2 → (words ≡ state-words p) × (is-state words ≡ true)
-      → Shuts words
+  pub shut-put : {words : List ℕ} → length state ≡ state-size → (words ≡ state-words (shut Lp2)) × (is-state words ≡ true) → Shuts words
   unfolding shut-words
-  shut-put l s w = (rw (eq-eqb (length state) state-size l, w .0, s), λ m. w .1)
+  shut-put l w = (rw (eq-eqb (length state) state-size l, w .0), λ m. w .1)
 
 -- Opening by a model's number.
 module _ (model lines spacing : ℕ) (x : Lent) where

@@ -11,7 +11,6 @@ ghost use Rattle.words.specs.Words.{is-state, state-size};
 ghost use Rattle.clocktoad.specs.Calls.{called, close-call, feed-call, model-call, open-call, refused-or, report-size, shut-words};
 use answers::admit;
 use answers::fit;
-use answers::shut;
 use job::calls::close;
 use job::calls::feed;
 use job::calls::open;
@@ -30,8 +29,11 @@ use words::STATE_WORDS;
 use words::is_model;
 use words::is_state;
 use words::model_of;
+use words::pending_read;
 use words::put;
+use words::put_new;
 use words::state_of;
+use words::state_with;
 
 // How many words a report has.
 pub const REPORT_WORDS: usize = 4;
@@ -81,9 +83,12 @@ fn open_model(
         );
     }
     let opened = open(model, lines, spacing, page, line, staging, store, font);
-    let printer = opened.printer;
     let answer = opened.answer;
-    put(state, printer);
+    if refusal(answer) {
+        put_new(state, model, 0, 0);
+        return answer_number(answer);
+    }
+    put_new(state, model, lines, spacing);
     answer_number(answer)
 }
 
@@ -93,7 +98,7 @@ fn put_shut(state: &mut [u64])
     ensures { λ _. ⌜ (length (now (state .entry)) ≡ state-size → is-state (now (state .exit)) ≡ true) ⌝ }
 {
     if state.len() == STATE_WORDS {
-        put(state, shut(Model::Lp2));
+        put_new(state, Model::Lp2, 0, 0);
     }
 }
 
@@ -180,7 +185,9 @@ pub extern "C" fn clocktoad_feed(
     if report.len() != REPORT_WORDS {
         return unreported(state_of(state), page, line, staging, store, font);
     }
-    let fed = feed(state_of(state), piece, page, line, staging, store, font);
+    // In two parts, each small enough to be compiled into the call.
+    let p = state_with(state, pending_read(state));
+    let fed = feed(p, piece, page, line, staging, store, font);
     let printer = fed.printer;
     let answer = fed.answer;
     if refusal(answer) {

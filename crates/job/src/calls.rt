@@ -36,6 +36,8 @@ use sheet::clearing::empty;
 use sheet::sizes::new_form;
 use sheet::sizes::page_bytes;
 use state::closing;
+use state::form_sound;
+use state::rest_sound;
 use state::sound;
 
 // Zeroes the page and the stores, and starts a job of a form.
@@ -137,15 +139,15 @@ pub fn feed(
         ≡ feeding (edition-of p) (now (font .entry)) (now (piece .entry))
         (machine p (now (page .entry)) (now (line .entry)) (now (staging .entry)) (now (store .entry))) ⌝ }
 {
-    if !sound(p) {
-        return Fed {
-            printer: p,
-            answer: Answer::Unsound,
-            taken: 0,
-        };
-    }
     let model = p.model;
     let form = p.form;
+    // In two parts, each small enough to be compiled into the call.
+    if !form_sound(model, form) {
+        return given(p, Answer::Unsound, 0);
+    }
+    if !rest_sound(p) {
+        return given(p, Answer::Unsound, 0);
+    }
     let fitting = fit(model, form, page, line, staging, store, font);
     match fitting {
         Fit::Wrong(lent) => Fed {

@@ -4,4 +4,6 @@ mod soundness;
 pub mod tabs;
 
 pub use soundness::closing;
+pub use soundness::form_sound;
+pub use soundness::rest_sound;
 pub use soundness::sound;

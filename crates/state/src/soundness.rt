@@ -1,5 +1,6 @@
 // Which states are sound, and what is said of a job that is closed.
 ghost use mathlib.Core.Path.{_≡_};
+ghost use mathlib.Core.Bool.{true};
 ghost use Rattle.sheet.specs.Edition.{described};
 ghost use Rattle.printer.specs.Closing.{closing};
 ghost use Rattle.printer.specs.Machine.{edition-of};
@@ -42,7 +43,7 @@ fn begun(pending: Pending) -> Begun
 }
 
 // L and the spacing are in range and the margins lie on the form; where the form can't change they are its own ends.
-fn form_sound(model: Model, form: Form) -> bool
+pub fn form_sound(model: Model, form: Form) -> bool
     ensures { λ r. ⌜ r ≡ form-sound (described model) form ⌝ }
 {
     if !lines_allowed(model, form.lines) {
@@ -136,8 +137,9 @@ fn plot_sound(head: Head, pending: Pending) -> bool
     !head.plotting || (head.plotted && at_most_escape(pending))
 }
 
-// A state that bytes may be fed to.
-pub fn sound(p: Printer) -> bool
+// A state that bytes may be fed to, where its form is sound.
+pub fn rest_sound(p: Printer) -> bool
+    requires { ⌜ form-sound (edition-of p) (p .form) ≡ true ⌝ }
     ensures { λ r. ⌜ r ≡ sound (edition-of p) p ⌝ }
 {
     let model = p.model;
@@ -146,9 +148,6 @@ pub fn sound(p: Printer) -> bool
     let style = p.style;
     let pitch = style.pitch;
     let pending = p.pending;
-    if !form_sound(model, form) {
-        return false;
-    }
     if !below_top(form, head.row) {
         return false;
     }
@@ -171,6 +170,18 @@ pub fn sound(p: Printer) -> bool
         return false;
     }
     plot_sound(head, pending)
+}
+
+// A state that bytes may be fed to.
+pub fn sound(p: Printer) -> bool
+    ensures { λ r. ⌜ r ≡ sound (edition-of p) p ⌝ }
+{
+    let model = p.model;
+    let form = p.form;
+    if !form_sound(model, form) {
+        return false;
+    }
+    rest_sound(p)
 }
 
 // What is said of a job that is closed in this state.

@@ -1,7 +1,7 @@
 -- Words read one by one.
 use Prim.Native.Nat.{ℕ}
 use mathlib.Core.List.{List}
-use mathlib.Core.Path.{_≡_}
+use mathlib.Core.Path.{_≡_, ap, _∙_}
 use lib.Dec.{eqb}
 use lib.ListN.{getD}
 use Rattle.sheet.specs.declared.Form.{Form}
@@ -12,8 +12,9 @@ use Rattle.sheet.specs.declared.Row.{Row}
 use Rattle.sheet.specs.Form.{line, row}
 use Rattle.printer.specs.declared.Head.{Head}
 use Rattle.printer.specs.declared.Pending.{Pending}
+use Rattle.printer.specs.declared.Printer.{Printer}
 use Rattle.printer.specs.declared.Style.{Style}
-use Rattle.words.specs.Words.{form-of, head-of, model-of, pending-of, pitch-of, state-of, style-of}
+use Rattle.words.specs.Words.{form-of, head-of, model-of, pending-read, pending-of, pitch-of, state-of, state-with, style-of}
 
 -- what is made of what was read of some words, the others as they stand
 module _ (ws : List ℕ) where
@@ -35,16 +36,21 @@ module _ (ws : List ℕ) where
   unfolding style-of
   read-style a = simp a
 
-  module _ {model : Model} {form : Form} {job place byte : ℕ} {pending : Pending} {head : Head} {style : Style} where
+  pub read-pending : {place byte : ℕ} {pending : Pending} → place ≡ w 18 → byte ≡ w 19
+      → pending ≡ pending-of (w 17) place byte (w 20) (w 21) (w 22) → pending ≡ pending-read ws
+  read-pending a b c = simp (c, a, b)
+
+  -- what is pending and the rest with it are the whole
+  pub read-whole : {pending : Pending} {p : Printer} → pending ≡ pending-read ws → p ≡ state-with ws pending → p ≡ state-of ws
+  unfolding state-of
+  read-whole q e = e ∙ ap (state-with ws) q
+
+  module _ {model : Model} {form : Form} {job : ℕ} {pending : Pending} {head : Head} {style : Style} where
     pub read-state : model ≡ model-of (w 0)
         → form ≡ form-of ws
         → job ≡ w 5
         → head ≡ head-of ws
         → style ≡ style-of ws
-        → place ≡ w 18
-        → byte ≡ w 19
-        → pending ≡ pending-of (w 17) place byte (w 20) (w 21) (w 22)
         → record { model = model; form = form; job = job; pending = pending; head = head; style = style; tabs = record { low = w 15; high = w 16 } }
-        ≡ state-of ws
-    unfolding state-of
-    read-state a b c d e f g h = simp (a, b, c, d, e, h, f, g)
+        ≡ state-with ws pending
+    read-state a b c d e = simp (a, b, c, d, e)

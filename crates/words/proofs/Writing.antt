@@ -2,15 +2,18 @@
 use Prim.Native.Nat.{ℕ, _+_, _≤_}
 use mathlib.Core.Bool.{true}
 use mathlib.Core.List.{List, [], _∷_, _++_, append-nil}
-use mathlib.Core.Path.{_≡_, ap, _∙_}
+use mathlib.Core.Path.{_≡_, refl, ap, _∙_}
 use native.Mathlib.Omega.{arith}
 use lib.ListN.{drop, drop-of-length-le, length, take}
 use lib.Seq.{sets, sets-eq, take-at}
-use Rattle.sheet.specs.Form.{lines-through, rows-above}
+use Rattle.sheet.specs.declared.Model.{Model}
+use Rattle.sheet.specs.Form.{first-row, lines-through, new-form, rows-above, top-row}
 use Rattle.printer.specs.declared.Pending.{Pending}
 use Rattle.printer.specs.declared.Pending.the-variants.{Bracket}
 use Rattle.printer.specs.declared.Printer.{Printer}
 use Rattle.printer.specs.declared.Settings.{Settings}
+use Rattle.printer.specs.Machine.{new-printer}
+use Rattle.printer.specs.Tabs.{no-tabs}
 use Rattle.words.specs.Words.{Ranged, is-state, model-word, pending-words, pitch-word, setting-word, state-size, state-words, truth}
 use Rattle.words.proofs.Kept.{put-is-state}
 
@@ -69,3 +72,13 @@ wrote-state p old {new} {model} {top} {bottom} {rows} {fresh} {plotted} {plottin
     let first = written-before (before p model top bottom rows fresh plotted plotting pitch elongated underscore downloaded) old (omega arith) in
     let put : new ≡ state-words p = h .0 ∙ ap (λ (ws : List ℕ). ws ++ pending-words (p .pending)) first ∙ simp (m, t, u, r, a, b, c, d, e, f, g) in
     (put, ap is-state put ∙ put-is-state p j (h .1))
+
+-- the words of a job just opened
+pub wrote-new : (w : Model) (lines spacing : ℕ) (old : List ℕ) {new : List ℕ} {model : ℕ} → length old ≡ state-size → model ≡ model-word w
+    → new
+    ≡ take 17 (sets old 0 (model ∷ lines ∷ spacing ∷ 1 ∷ lines ∷ 0 ∷ 0 ∷ 0 ∷ 1 ∷ 0 ∷ 0 ∷ 0 ∷ 0 ∷ 0 ∷ 0 ∷ 0 ∷ 0 ∷ [])) ++ (0 ∷ 0 ∷ 0 ∷ 0 ∷ 0 ∷ 0 ∷ [])
+    → (new ≡ state-words (new-printer w (new-form lines spacing))) × (is-state new ≡ true)
+unfolding truth pitch-word pending-words top-row first-row no-tabs
+wrote-new w lines spacing old l m h =
+    wrote-state (new-printer w (new-form lines spacing)) old {rows = 0} l (omega arith) m refl refl (omega arith) refl refl refl refl refl refl refl
+    (h, tt)

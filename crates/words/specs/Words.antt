@@ -140,7 +140,7 @@ pending-of kind place byte count address taken =
     (cond (eqb kind 10) (Payload place (record { count = count; address = address; taken = taken; sum = byte }))
     (Bracket place (record { first = setting-of count; second = setting-of address; third = setting-of taken; semicolons = byte }))))))))))))
 
--- the state that words hold: its form, head and style, and the whole
+-- the state that words hold: its form, head and style, what is pending, all with that, and the whole
 unfoldable pub form-of : List ℕ → Form
 form-of ws = record { lines = getD ws 1 0; spacing = getD ws 2 0; top = line (getD ws 3 0); bottom = line (getD ws 4 0) }
 
@@ -154,18 +154,24 @@ style-of ws =
     let w : ℕ → ℕ = λ k. getD ws k 0 in
     record { pitch = pitch-of (w 11); elongated = eqb (w 12) 1; underscore = eqb (w 13) 1; downloaded = eqb (w 14) 1 }
 
-unfoldable pub state-of : List ℕ → Printer
-state-of ws =
+abbrev pub pending-read : List ℕ → Pending
+pending-read ws = let w : ℕ → ℕ = λ k. getD ws k 0 in pending-of (w 17) (w 18) (w 19) (w 20) (w 21) (w 22)
+
+abbrev pub state-with : List ℕ → Pending → Printer
+state-with ws pending =
     let w : ℕ → ℕ = λ k. getD ws k 0 in
     record {
       model = model-of (w 0);
       form = form-of ws;
       job = w 5;
-      pending = pending-of (w 17) (w 18) (w 19) (w 20) (w 21) (w 22);
+      pending = pending;
       head = head-of ws;
       style = style-of ws;
       tabs = record { low = w 15; high = w 16 };
     }
+
+unfoldable pub state-of : List ℕ → Printer
+state-of ws = state-with ws (pending-read ws)
 
 -- what is pending is in range, as in every state that code can hold
 abbrev pub Ranged : Pending → Type 0

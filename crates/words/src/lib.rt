@@ -4,10 +4,11 @@ ghost use mathlib.Core.Bool.{true};
 ghost use mathlib.Core.List.{[], _∷_, _++_};
 ghost use Prim.Native.Nat.{_+_, _≤_};
 ghost use lib.ListN.{length, take};
-ghost use Rattle.printer.specs.Machine.{limit};
+ghost use Rattle.sheet.specs.Form.{new-form};
+ghost use Rattle.printer.specs.Machine.{limit, new-printer};
 ghost use Rattle.printer.specs.declared.Pending.the-variants.{Bracket};
-ghost use Rattle.words.specs.Words.{Ranged, at-most, form-of, head-of, in-range, is-model, is-state, model-of, model-word, number-limit, part, pending-of};
-ghost use Rattle.words.specs.Words.{pending-words, pitch-of, pitch-word, setting-of, setting-word, state-of, state-size, state-words, style-of, truth};
+ghost use Rattle.words.specs.Words.{Ranged, at-most, form-of, head-of, in-range, is-model, is-state, model-of, model-word, number-limit, part, pending-read};
+ghost use Rattle.words.specs.Words.{pending-of, pending-words, pitch-of, pitch-word, setting-of, setting-word, state-of, state-size, state-with, state-words, style-of, truth};
 use printer::Head;
 use printer::JOB_LIMIT;
 use printer::Load;
@@ -154,6 +155,32 @@ pub fn put(state: &mut [u64], p: Printer)
     state[15] = p.tabs.low;
     state[16] = p.tabs.high;
     put_pending(state, pending);
+}
+
+// Puts the state of a job just opened into words, which are then a state; of no lines it is the shut one.
+pub fn put_new(state: &mut [u64], model: Model, lines: usize, spacing: usize)
+    requires { ⌜ length (now state) ≡ state-size ⌝ }
+    ensures { λ _. ⌜ now (state .exit) ≡ state-words (new-printer model (new-form lines spacing)) ⌝ }
+    ensures { λ _. ⌜ is-state (now (state .exit)) ≡ true ⌝ }
+{
+    state[0] = model_word(model);
+    state[1] = lines as u64;
+    state[2] = spacing as u64;
+    state[3] = 1;
+    state[4] = lines as u64;
+    state[5] = 0;
+    state[6] = 0;
+    state[7] = 0;
+    state[8] = 1;
+    state[9] = 0;
+    state[10] = 0;
+    state[11] = 0;
+    state[12] = 0;
+    state[13] = 0;
+    state[14] = 0;
+    state[15] = 0;
+    state[16] = 0;
+    six(state, 0, 0, 0, 0, 0, 0);
 }
 
 // Whether none of n words from word k on is above m.
@@ -360,10 +387,26 @@ fn style_of(state: &[u64]) -> Style
     }
 }
 
-// The state that words hold.
-pub fn state_of(state: &[u64]) -> Printer
+// What is pending, from its words.
+pub fn pending_read(state: &[u64]) -> Pending
     requires { ⌜ (length (now state) ≡ state-size) × (in-range (now state) ≡ true) ⌝ }
-    ensures { λ r. ⌜ r ≡ state-of (now (state .entry)) ⌝ }
+    ensures { λ r. ⌜ r ≡ pending-read (now (state .entry)) ⌝ }
+{
+    let begun = place(state[18]);
+    pending_of(
+        state[17],
+        begun,
+        byte(state[19]),
+        state[20],
+        state[21],
+        state[22],
+    )
+}
+
+// The state that words hold, with what is pending as it was read.
+pub fn state_with(state: &[u64], pending: Pending) -> Printer
+    requires { ⌜ (length (now state) ≡ state-size) × (in-range (now state) ≡ true) ⌝ }
+    ensures { λ r. ⌜ r ≡ state-with (now (state .entry)) pending ⌝ }
 {
     let model = model_of(state[0]);
     let form = form_of(state);
@@ -374,15 +417,6 @@ pub fn state_of(state: &[u64]) -> Printer
         low: state[15],
         high: state[16],
     };
-    let begun = place(state[18]);
-    let pending = pending_of(
-        state[17],
-        begun,
-        byte(state[19]),
-        state[20],
-        state[21],
-        state[22],
-    );
     Printer {
         model,
         form,
@@ -392,4 +426,12 @@ pub fn state_of(state: &[u64]) -> Printer
         style,
         tabs,
     }
+}
+
+// The state that words hold.
+pub fn state_of(state: &[u64]) -> Printer
+    requires { ⌜ (length (now state) ≡ state-size) × (in-range (now state) ≡ true) ⌝ }
+    ensures { λ r. ⌜ r ≡ state-of (now (state .entry)) ⌝ }
+{
+    state_with(state, pending_read(state))
 }

@@ -16,7 +16,7 @@ returns-2 : tie.Need-returns-2
 unfolding pending-words
 returns-2 c =
     let s = c .before .before .six2 .ensures in
-    wrote-pending (start-at-returns-2 c .args .state .now) (pending-at-returns-2 c .pending .given .1) (s .0, s .1 .0)
+    wrote-pending (start-at-returns-2 c .args .state .now) (pending-read-returns-2 c .pending .given .1) (s .0, s .1 .0)
 
 returns-3 : tie.Need-returns-3
 unfolding pending-words

@@ -13,6 +13,7 @@ use Rattle.protocol.specs.Given.{given-feeding}
 use Rattle.clocktoad.specs.Calls.{feeding-words, report-size}
 use Rattle.words.specs.Words.{is-state}
 use Rattle.words.proofs.Ranges.{state-halves}
+use Rattle.words.proofs.Reading.{read-whole}
 use Rattle.clocktoad.proofs.Calling.{Lent, at-feed, fed-on, fed-refused, feed-10, feed-unreported, feeds}
 use Rattle.clocktoad.proofs.calls.clocktoad_feed.Statement.{statement}
 use Rattle.clocktoad.proofs.calls.clocktoad_feed.Tie as tie
@@ -44,8 +45,8 @@ fed-as-asked : (c : tie.After-feed)
     → let s = start-at-feed c in feeding-words (fed c) (lent s .state) (told s) ≡ at-feed (lent s) (piece s) (told s)
 fed-as-asked c =
     let s = start-at-feed c in
-    feeds (lent s) (piece s) (told s) (held (else1-at-feed c)) (state-of2-at-feed c .state-of2 .ensures) (fed c) (report-right (else2-at-feed c))
-    (c .feed .ensures)
+    let p = read-whole (lent s .state) (pending-read-at-feed c .pending-read .ensures) (state-with-at-feed c .state-with .ensures) in
+    feeds (lent s) (piece s) (told s) (held (else1-at-feed c)) p (fed c) (report-right (else2-at-feed c)) (c .feed .ensures)
 
 returns : tie.Need-returns
 returns c =
@@ -61,8 +62,11 @@ returns-2 c =
     feed-unreported (lent s) (piece s) (told s) (held (else1-at-returns-2 c)) (state-of-at-returns-2 c .state-of .ensures)
     (then2-at-returns-2 c .if2 .taken) (c .unreported .ensures (piece s))
 
-state-of-requires-2 : tie.Need-state-of-requires-2
-state-of-requires-2 c κs = state-halves _ (held (else1-at-state-of-requires-2 c))
+pending-read-requires : tie.Need-pending-read-requires
+pending-read-requires c κs = state-halves _ (held (else1-at-pending-read-requires c))
+
+state-with-requires : tie.Need-state-with-requires
+state-with-requires c κs = state-halves _ (held (else1-at-state-with-requires c))
 
 returns-3 : tie.Need-returns-3
 returns-3 c =
@@ -88,7 +92,7 @@ pub clocktoad-feed-spec : {M : Type 1} → statement M
 clocktoad-feed-spec =
     tie.close
     (tie.spec (λ c κs. search needs) (λ c. search needs) returns state-of-requires (λ c κs. search needs) (λ c. search needs) (λ c. search needs)
-    (λ c. search needs) (λ c. search needs) (λ c. search needs) returns-2 state-of-requires-2 (λ c κs. search needs) (λ c κs. search needs)
+    (λ c. search needs) (λ c. search needs) (λ c. search needs) returns-2 pending-read-requires state-with-requires (λ c κs. search needs) (λ c κs. search needs)
     (λ c κs. search needs) (λ c. search needs) (λ c. search needs) (λ c. search needs) (λ c. search needs) (λ c. search needs) returns-3 put-requires
     (λ c κs. search needs) (λ c κs. search needs) tell-requires (λ c κs. search needs) (λ c. search needs) (λ c. search needs) (λ c. search needs)
     (λ c. search needs) (λ c. search needs) (λ c. search needs) returns-4)

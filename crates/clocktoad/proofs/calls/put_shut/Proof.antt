@@ -9,10 +9,10 @@ use Places.*
 
 returns : tie.Need-returns
 returns c =
-    shut-put _ (omega (arith, then1-at-returns c .if1 .taken)) (shut-at-returns c .shut .ensures) (c .before .before .put .ensures)
+    shut-put _ (omega (arith, then1-at-returns c .if1 .taken)) (c .before .before .put-new .ensures)
 
 returns-2 : tie.Need-returns-2
 returns-2 c = shut-kept _ (λ q. omega (arith, c .if1 .left))
 
 pub put-shut-spec : {M : Type 1} → statement M
-put-shut-spec = tie.close (tie.spec (λ c κs. search needs) (λ c κs. search needs) (λ c. search needs) returns returns-2)
+put-shut-spec = tie.close (tie.spec (λ c κs. search needs) (λ c. search needs) returns returns-2)

@@ -13,8 +13,8 @@ known-told8-at-returns-9 c = c .before .before .before .before
 abbrev pub known-told9-at-returns-10 : tie.After-slice-known11 → tie.After-known-told9
 known-told9-at-returns-10 c = c .before .before .before .before
 
-abbrev pub pending-at-returns-2 : tie.After-slice-known3 → tie.After-pending
-pending-at-returns-2 c = c .before .before .before .before .before
+abbrev pub pending-read-returns-2 : tie.After-slice-known3 → tie.After-pending
+pending-read-returns-2 c = c .before .before .before .before .before
 
 abbrev pub pending10-at-returns-11 : tie.After-slice-known12 → tie.After-pending10
 pending10-at-returns-11 c = c .before .before .before .before .before .before .before .before
