@@ -109,7 +109,8 @@ module _ (model lines spacing : ℕ) (x : Lent) where
   unfolding open-call
   open-unknown n s = (rw (n, s .0), s .1)
 
-  pub open-known : (g : Called) {w : Model} → is-model model ≡ true → w ≡ model-of model → Opens w lines spacing x g → (g ≡ at-open) × InPlace (x .state) (g .state)
+  pub open-known : (g : Called) {w : Model} → is-model model ≡ true → w ≡ model-of model → Opens w lines spacing x g
+      → (g ≡ at-open) × InPlace (x .state) (g .state)
   unfolding open-call
   open-known g k m o = (o .0 ∙ rw (k, m), o .1)
 

@@ -92,7 +92,7 @@ pub clocktoad-feed-spec : {M : Type 1} → statement M
 clocktoad-feed-spec =
     tie.close
     (tie.spec (λ c κs. search needs) (λ c. search needs) returns state-of-requires (λ c κs. search needs) (λ c. search needs) (λ c. search needs)
-    (λ c. search needs) (λ c. search needs) (λ c. search needs) returns-2 pending-read-requires state-with-requires (λ c κs. search needs) (λ c κs. search needs)
-    (λ c κs. search needs) (λ c. search needs) (λ c. search needs) (λ c. search needs) (λ c. search needs) (λ c. search needs) returns-3 put-requires
-    (λ c κs. search needs) (λ c κs. search needs) tell-requires (λ c κs. search needs) (λ c. search needs) (λ c. search needs) (λ c. search needs)
-    (λ c. search needs) (λ c. search needs) (λ c. search needs) returns-4)
+    (λ c. search needs) (λ c. search needs) (λ c. search needs) returns-2 pending-read-requires state-with-requires (λ c κs. search needs)
+    (λ c κs. search needs) (λ c κs. search needs) (λ c. search needs) (λ c. search needs) (λ c. search needs) (λ c. search needs) (λ c. search needs)
+    returns-3 put-requires (λ c κs. search needs) (λ c κs. search needs) tell-requires (λ c κs. search needs) (λ c. search needs) (λ c. search needs)
+    (λ c. search needs) (λ c. search needs) (λ c. search needs) (λ c. search needs) returns-4)

@@ -94,6 +94,7 @@ returns-4 c =
 pub feed-spec : {M : Type 1} → statement M
 feed-spec =
     tie.close
-    (tie.spec (λ c κs. search needs) (λ c κs. search needs) returns rest-sound-requires (λ c κs. search needs) returns-2 fit-requires (λ c. search needs) (λ c. search needs) take-bytes-requires (λ c. search needs)
+    (tie.spec (λ c κs. search needs) (λ c κs. search needs) returns rest-sound-requires (λ c κs. search needs) returns-2 fit-requires
+    (λ c. search needs) (λ c. search needs) take-bytes-requires (λ c. search needs)
     (λ c. search needs) (λ c. search needs) (λ c. search needs) returns-3 (λ c. search needs) (λ c. search needs) (λ c. search needs)
     (λ c. search needs) returns-4)
