@@ -65,13 +65,16 @@ fn underscore(line: &mut [u16], k: usize, at: usize, stride: usize)
     }
 }
 
-// Enters glyph n, narrow or elongated.
+// Enters glyph n, narrow or elongated. Where narrow columns stand side by side, as an LP2's, a call of its own has the stride as a constant, so that
+// the compiler knows the places beforehand.
 fn enter_glyph(line: &mut [u16], glyphs: &[u8], n: usize, elongated: bool, at: usize, stride: usize)
     requires { ⌜ Room (now line) (now glyphs) n elongated at stride ⌝ }
     ensures { λ _. ⌜ now (line .exit) ≡ enter-glyph (now (glyphs .entry)) n elongated at stride (now (line .entry)) ⌝ }
 {
     if elongated {
         enter_wide(line, glyphs, n, at, stride);
+    } else if stride == 1 {
+        enter_narrow(line, glyphs, n, at, 1);
     } else {
         enter_narrow(line, glyphs, n, at, stride);
     }

@@ -7,17 +7,17 @@ use native.Mathlib.Nat.{mul-comm, pow-suc, add-zero, zero-add, add-comm, zero-mu
 use native.Mathlib.Numerals.{add-one}
 use lib.Pow.{pow-add, pow-mono, pow-pos, pow-lt, shr-shr, split, high, low, field, mod-mod-pow}
 use lib.Bits.{bitAnd, bitOr, or-add-and, and-le-l, and-le-r, and-zero-r, and-block, and-mask}
-use lib.ListN.{length, getD, take, drop, drop-of-length-le, length-drop}
+use lib.ListN.{length, getD, set, take, drop, drop-of-length-le, length-drop}
 use lib.Seq.{drop-cons, drop-length, getD-take, getD-drop, length-take-le}
 use mir.Syntax.{w64}
 use mir.Val.{Fits}
 use Rattle.sheet.specs.declared.Grid.{Grid}
 use Rattle.sheet.specs.declared.Pitch.{Pitch}
 use Rattle.sheet.specs.declared.Row.{Row}
-use Rattle.sheet.specs.Edition.{Edition, lp2}
+use Rattle.sheet.specs.Edition.{Edition}
 use Rattle.sheet.specs.Form.{lower}
 use Rattle.sheet.specs.Dots.{bit, blacken-all, mark-if, dot-at, wire-marks, column-marks, line-marks}
-use Rattle.striking.specs.Groups.{any-wires, fields, ones, wire-dots, join-byte, join}
+use Rattle.striking.specs.Groups.{any-wires, fields, ones, wire-dots, join-byte, join, swapped}
 use Rattle.sheet.proofs.AnyOrder.{blacken-all-swap}
 use Rattle.sheet.proofs.Bits.{bit-lt}
 use Rattle.sheet.proofs.Blackening.{blacken-all-append, mark-first}
@@ -25,7 +25,7 @@ use Rattle.sheet.proofs.Marks.{no-wires}
 use Rattle.striking.proofs.Joining.{bit-marks, bit-marks-moved, bit-marks-last, joined}
 
 -- a bit below bit s does not depend on the bits from s on
-low-bit : (n k j : ℕ) → bit n k ≡ bit (n % 2 ^ (suc j + k)) k
+pub low-bit : (n k j : ℕ) → bit n k ≡ bit (n % 2 ^ (suc j + k)) k
 unfolding bit
 low-bit n k j =
     sym (mod-mod-pow (n / 2 ^ k) j 1)
@@ -33,7 +33,7 @@ low-bit n k j =
     ∙ ap (λ (m : ℕ). m % 2) (sym (field n (suc j) k))
 
 -- a bit of a number moved right
-moved-bit : (n i k : ℕ) → bit (n / 2 ^ i) k ≡ bit n (i + k)
+pub moved-bit : (n i k : ℕ) → bit (n / 2 ^ i) k ≡ bit n (i + k)
 unfolding bit
 moved-bit n i k = ap (λ (m : ℕ). m % 2) (shr-shr n i k)
 
@@ -60,7 +60,7 @@ mask-field n m s h =
     ∙ ap (λ (k : ℕ). bitAnd (n / 2 ^ s) m * 2 ^ s + k) (and-mask (n % 2 ^ s) 1 ∙ ap (λ (k : ℕ). n % 2 ^ k % 2) e ∙ mod-mod-pow n (s - 1) 1)
 
 -- a bit, read
-bit-is : (n k : ℕ) → n / 2 ^ k % 2 ≡ bit n k
+pub bit-is : (n k : ℕ) → n / 2 ^ k % 2 ≡ bit n k
 unfolding bit
 bit-is n k = refl
 
@@ -133,58 +133,60 @@ wire-joined page columns at z skip k w eight h e =
     ∙ ap (λ (m : ℕ). blacken-all page (wire-row (skip + k) columns m (suc z))) (add-zero (at * 8))
 
 -- the dots of the n lowest wires of some columns, row by row
-unfoldable pub rows : ℕ → List ℕ → ℕ → ℕ → List ℕ
-rows zero columns d s = []
-rows (suc n) columns d s = wire-row n columns d s ++ rows n columns (d + 6600) s
+unfoldable pub rows : Edition → ℕ → List ℕ → ℕ → ℕ → List ℕ
+rows e zero columns d s = []
+rows e (suc n) columns d s = wire-row n columns d s ++ rows e n columns (d + e .bytes * 8) s
 
--- no columns have no dots
-rows-none : (n d s : ℕ) → rows n [] d s ≡ []
-unfolding rows wire-row
-rows-none zero d s = refl
-rows-none (suc n) d s = rows-none n (d + 6600) s
+module _ (e : Edition) where
+  -- no columns have no dots
+  rows-none : (n d s : ℕ) → rows e n [] d s ≡ []
+  unfolding rows wire-row
+  rows-none zero d s = refl
+  rows-none (suc n) d s = rows-none n (d + e .bytes * 8) s
 
--- the dot a row lower
-dot-lower : (r : Row) (g : Grid) → dot-at lp2 (lower 1 r) g ≡ dot-at lp2 r g + 6600
-unfolding dot-at lp2
-dot-lower r g = omega arith
+  -- the dot a row lower
+  dot-lower : (r : Row) (g : Grid) → dot-at e (lower 1 r) g ≡ dot-at e r g + e .bytes * 8
+  unfolding dot-at
+  dot-lower r g = omega arith
 
--- of some columns row by row, the first may be struck before the others
-rows-first : (page : List ℕ) (n x : ℕ) (xs : List ℕ) (s : ℕ) (r : Row) (g : Grid) (d : ℕ) → d ≡ dot-at lp2 r g
-    → blacken-all page (rows n (x ∷ xs) d s) ≡ blacken-all (blacken-all page (wire-marks lp2 n x r g)) (rows n xs (d + s) s)
-unfolding rows wire-row wire-marks blacken-all
-rows-first page zero x xs s r g d e = refl
-rows-first page (suc n) x xs s r g d e =
-    let b : ℕ = bit x n in
-    let row : List ℕ = wire-row n xs (d + s) s in
-    let under : List ℕ = wire-marks lp2 n x (lower 1 r) g in
-    let marked : List ℕ = blacken-all page (mark-if b d []) in
-    let place : d + 6600 + s ≡ d + s + 6600 = omega arith in
-    blacken-all-append page (mark-if b d row) (rows n (x ∷ xs) (d + 6600) s)
-    ∙ rows-first (blacken-all page (mark-if b d row)) n x xs s (lower 1 r) g (d + 6600) (ap (λ (m : ℕ). m + 6600) e ∙ sym (dot-lower r g))
-    ∙ ap (λ (p : List ℕ). blacken-all (blacken-all p under) (rows n xs (d + 6600 + s) s)) (mark-first page b d row)
-    ∙ ap (λ (p : List ℕ). blacken-all p (rows n xs (d + 6600 + s) s)) (blacken-all-swap marked row under)
-    ∙ ap (λ (m : ℕ). blacken-all (blacken-all (blacken-all marked under) row) (rows n xs m s)) place
-    ∙ sym (blacken-all-append (blacken-all marked under) row (rows n xs (d + s + 6600) s))
-    ∙ ap (λ (p : List ℕ). blacken-all p (row ++ rows n xs (d + s + 6600) s)) (sym (mark-first page b d under))
-    ∙ ap (λ (m : ℕ). blacken-all (blacken-all page (mark-if b m under)) (row ++ rows n xs (d + s + 6600) s)) e
+  -- of some columns row by row, the first may be struck before the others
+  rows-first : (page : List ℕ) (n x : ℕ) (xs : List ℕ) (s : ℕ) (r : Row) (g : Grid) (d : ℕ) → d ≡ dot-at e r g
+      → blacken-all page (rows e n (x ∷ xs) d s) ≡ blacken-all (blacken-all page (wire-marks e n x r g)) (rows e n xs (d + s) s)
+  unfolding rows wire-row wire-marks blacken-all
+  rows-first page zero x xs s r g d q = refl
+  rows-first page (suc n) x xs s r g d q =
+      let down : ℕ = e .bytes * 8 in
+      let b : ℕ = bit x n in
+      let row : List ℕ = wire-row n xs (d + s) s in
+      let under : List ℕ = wire-marks e n x (lower 1 r) g in
+      let marked : List ℕ = blacken-all page (mark-if b d []) in
+      let place : d + down + s ≡ d + s + down = omega arith in
+      blacken-all-append page (mark-if b d row) (rows e n (x ∷ xs) (d + down) s)
+      ∙ rows-first (blacken-all page (mark-if b d row)) n x xs s (lower 1 r) g (d + down) (ap (λ (m : ℕ). m + down) q ∙ sym (dot-lower r g))
+      ∙ ap (λ (p : List ℕ). blacken-all (blacken-all p under) (rows e n xs (d + down + s) s)) (mark-first page b d row)
+      ∙ ap (λ (p : List ℕ). blacken-all p (rows e n xs (d + down + s) s)) (blacken-all-swap marked row under)
+      ∙ ap (λ (m : ℕ). blacken-all (blacken-all (blacken-all marked under) row) (rows e n xs m s)) place
+      ∙ sym (blacken-all-append (blacken-all marked under) row (rows e n xs (d + s + down) s))
+      ∙ ap (λ (p : List ℕ). blacken-all p (row ++ rows e n xs (d + s + down) s)) (sym (mark-first page b d under))
+      ∙ ap (λ (m : ℕ). blacken-all (blacken-all page (mark-if b m under)) (row ++ rows e n xs (d + s + down) s)) q
 
--- the dot further on in a row
-dot-after : (r : Row) (g h : Grid) (s : ℕ) → h .0 ≡ g .0 + s → dot-at lp2 r h ≡ dot-at lp2 r g + s
-unfolding dot-at lp2
-dot-after r g h s e = omega arith
+  -- the dot further on in a row
+  dot-after : (r : Row) (g h : Grid) (s : ℕ) → h .0 ≡ g .0 + s → dot-at e r h ≡ dot-at e r g + s
+  unfolding dot-at
+  dot-after r g h s q = omega arith
 
--- columns struck row by row are struck column by column
-pub rows-line : (pitch : Pitch) (s : ℕ) → ((c : ℕ) → lp2 .grid pitch (c + 1) .0 ≡ lp2 .grid pitch c .0 + s)
-    → (page columns : List ℕ) (r : Row) (c d : ℕ)
-    → d ≡ dot-at lp2 r (lp2 .grid pitch c) → blacken-all page (rows 9 columns d s) ≡ blacken-all page (line-marks lp2 columns pitch r c)
-unfolding line-marks column-marks
-rows-line pitch s apart page [] r c d e = ap (blacken-all page) (rows-none 9 d s)
-rows-line pitch s apart page (x ∷ xs) r c d e =
-    let g : Grid = lp2 .grid pitch c in
-    rows-first page 9 x xs s r g d e
-    ∙ rows-line pitch s apart (blacken-all page (wire-marks lp2 9 x r g)) xs r (c + 1) (d + s)
-    (ap (λ (m : ℕ). m + s) e ∙ sym (dot-after r g (lp2 .grid pitch (c + 1)) s (apart c)))
-    ∙ sym (blacken-all-append page (wire-marks lp2 9 x r g) (line-marks lp2 xs pitch r (c + 1)))
+  -- columns struck row by row are struck column by column
+  pub rows-line : (pitch : Pitch) (s : ℕ) → ((c : ℕ) → e .grid pitch (c + 1) .0 ≡ e .grid pitch c .0 + s)
+      → (page columns : List ℕ) (r : Row) (c d : ℕ)
+      → d ≡ dot-at e r (e .grid pitch c) → blacken-all page (rows e 9 columns d s) ≡ blacken-all page (line-marks e columns pitch r c)
+  unfolding line-marks column-marks
+  rows-line pitch s apart page [] r c d q = ap (blacken-all page) (rows-none 9 d s)
+  rows-line pitch s apart page (x ∷ xs) r c d q =
+      let g : Grid = e .grid pitch c in
+      rows-first page 9 x xs s r g d q
+      ∙ rows-line pitch s apart (blacken-all page (wire-marks e 9 x r g)) xs r (c + 1) (d + s)
+      (ap (λ (m : ℕ). m + s) q ∙ sym (dot-after r g (e .grid pitch (c + 1)) s (apart c)))
+      ∙ sym (blacken-all-append page (wire-marks e 9 x r g) (line-marks e xs pitch r (c + 1)))
 
 -- a masked number moved left stays within 64 bits where the mask does
 pub masked-fits : (x mask up : ℕ) → mask * up < 2 ^ 64 → Fits w64 (bitAnd x mask * up)
@@ -200,7 +202,7 @@ three-joined page at dots a b c =
     cc (ap₂ (join-byte page) first high)
 
 -- and so are five
-pub five-joined : {one two three four five : List ℕ} (page : List ℕ) (at dots : ℕ) → one ≡ join-byte page at (dots / 4294967296)
+five-joined : {one two three four five : List ℕ} (page : List ℕ) (at dots : ℕ) → one ≡ join-byte page at (dots / 4294967296)
     → two ≡ join-byte one (at + 1) (dots / 16777216) → three ≡ join-byte two (at + 2) (dots / 65536) → four ≡ join-byte three (at + 3) (dots / 256)
     → five ≡ join-byte four (at + 4) dots → five ≡ join page at 5 dots
 unfolding join
@@ -210,8 +212,88 @@ five-joined {one} page at dots a b c d e =
     let third : dots / 65536 ≡ dots / 256 / 256 = omega arith in
     cc (three-joined page at (dots / 65536) (a ∙ ap (join-byte page at) fifth) (b ∙ ap (join-byte one (at + 1)) fourth) c)
 
+-- five bytes as one number, the first highest
+abbrev five-bytes : ℕ → ℕ → ℕ → ℕ → ℕ → ℕ
+five-bytes a b c d e = a * 4294967296 + b * 16777216 + c * 65536 + d * 256 + e
+
+-- a byte that is 0 is put below s
+none-low : (k m s : ℕ) → swapped (suc k) (m * 256) s ≡ swapped k m (s * 256)
+unfolding swapped
+none-low k m s =
+    let half : m * 256 / 256 ≡ m = omega arith in
+    let none : s * 256 + m * 256 % 256 ≡ s * 256 = omega arith in
+    ap₂ (swapped k) half none
+
+-- five bytes put one below the other
+put-down : (a b c d e : ℕ) → ((((0 * 256 * 256 * 256 * 256 + a) * 256 + b) * 256 + c) * 256 + d) * 256 + e ≡ five-bytes a b c d e
+put-down a b c d e = omega arith
+
+five-taken : (m : ℕ) → swapped 5 m (0 * 256 * 256 * 256)
+    ≡ five-bytes (m % 256) (m / 256 % 256) (m / 256 / 256 % 256) (m / 256 / 256 / 256 % 256) (m / 256 / 256 / 256 / 256 % 256)
+unfolding swapped
+five-taken m = put-down (m % 256) (m / 256 % 256) (m / 256 / 256 % 256) (m / 256 / 256 / 256 % 256) (m / 256 / 256 / 256 / 256 % 256)
+
+-- five bytes of a number moved to the top, in the other order
+five-swapped : (n : ℕ) → swapped 8 (n * 16777216) 0 ≡ five-bytes (n % 256) (n / 256 % 256) (n / 65536 % 256) (n / 16777216 % 256) (n / 4294967296 % 256)
+five-swapped n =
+    let up : n * 16777216 ≡ n * 256 * 256 * 256 = omega arith in
+    let third : n / 256 / 256 ≡ n / 65536 = omega arith in
+    let fourth : n / 65536 / 256 ≡ n / 16777216 = omega arith in
+    let fifth : n / 16777216 / 256 ≡ n / 4294967296 = omega arith in
+    let two = ap (λ (k : ℕ). k / 256) third ∙ fourth in
+    ap (λ (k : ℕ). swapped 8 k 0) up
+    ∙ none-low 7 (n * 256 * 256) 0
+    ∙ none-low 6 (n * 256) 0
+    ∙ none-low 5 n 0
+    ∙ five-taken n
+    ∙ ap₂ (λ (j k : ℕ). five-bytes (n % 256) (n / 256 % 256) (j % 256) (k % 256) (n / 256 / 256 / 256 / 256 % 256)) third two
+    ∙ ap (λ (k : ℕ). five-bytes (n % 256) (n / 256 % 256) (n / 65536 % 256) (n / 16777216 % 256) (k % 256)) (ap (λ (k : ℕ). k / 256) two ∙ fifth)
+
+-- a byte joined is the number's lowest
+low-byte : (page : List ℕ) (i a b : ℕ) → a % 256 ≡ b % 256 → join-byte page i a ≡ join-byte page i b
+unfolding join-byte
+low-byte page i a b e = ap (λ (v : ℕ). set page i (bitOr (getD page i 0) v)) e
+
+-- such a number's bytes
+taken-apart : (m a b c d e : ℕ) → m ≡ five-bytes a b c d e → a < 256 → b < 256 → c < 256 → d < 256 → e < 256
+    → (m % 256 ≡ e) × (m / 256 % 256 ≡ d) × (m / 65536 % 256 ≡ c) × (m / 16777216 % 256 ≡ b) × (m / 4294967296 % 256 ≡ a)
+taken-apart m a b c d e is g h i j k = (omega arith, omega arith, omega arith, omega arith, omega arith)
+
+-- so the five are joined from the lowest on
+pub five-low : {one two three four five : List ℕ} (page : List ℕ) (at n dots : ℕ) → dots ≡ swapped 8 (n * 16777216) 0
+    → one ≡ join-byte page at dots → two ≡ join-byte one (at + 1) (dots / 256) → three ≡ join-byte two (at + 2) (dots / 65536)
+    → four ≡ join-byte three (at + 3) (dots / 16777216) → five ≡ join-byte four (at + 4) (dots / 4294967296) → five ≡ join page at 5 n
+five-low {one} {two} {three} {four} page at n dots is p q r s t =
+    let parts = taken-apart dots (n % 256) (n / 256 % 256) (n / 65536 % 256) (n / 16777216 % 256) (n / 4294967296 % 256) (is ∙ five-swapped n)
+    (mod-lt n (omega arith)) (mod-lt (n / 256) (omega arith)) (mod-lt (n / 65536) (omega arith)) (mod-lt (n / 16777216) (omega arith))
+    (mod-lt (n / 4294967296) (omega arith)) in
+    five-joined page at n (p ∙ low-byte page at dots (n / 4294967296) (parts .0)) (q ∙ low-byte one (at + 1) (dots / 256) (n / 16777216) (parts .1))
+    (r ∙ low-byte two (at + 2) (dots / 65536) (n / 65536) (parts .2)) (s ∙ low-byte three (at + 3) (dots / 16777216) (n / 256) (parts .3))
+    (t ∙ low-byte four (at + 4) (dots / 4294967296) n (parts .4))
+
+-- byte k of a number put below those before it, and the last
+pub swap-more : (n k s all : ℕ) → k < 8 → swapped (8 - k) (n / 2 ^ (8 * k)) s ≡ all
+    → swapped (8 - (k + 1)) (n / 2 ^ (8 * (k + 1))) (s * 256 + n / 2 ^ (8 * k) % 256) ≡ all
+unfolding swapped
+swap-more n k s all h so-far =
+    let here : suc (8 - (k + 1)) ≡ 8 - k = omega arith in
+    let next : n / 2 ^ (8 * (k + 1)) ≡ n / 2 ^ (8 * k) / 256 = ap (λ (m : ℕ). n / 2 ^ m) (omega arith) ∙ sym (shr-shr n (8 * k) 8) in
+    ap (λ (m : ℕ). swapped (8 - (k + 1)) m (s * 256 + n / 2 ^ (8 * k) % 256)) next ∙ ap (λ (i : ℕ). swapped i (n / 2 ^ (8 * k)) s) here ∙ so-far
+
+pub swap-last : (n k s all : ℕ) → 8 ≤ k → swapped (8 - k) (n / 2 ^ (8 * k)) s ≡ all → s ≡ all
+unfolding swapped
+swap-last n k s all h so-far =
+    let none : 0 ≡ 8 - k = omega arith in
+    ap (λ (i : ℕ). swapped i (n / 2 ^ (8 * k)) s) none ∙ so-far
+
+-- k bytes are below 256 to the k-th
+pub swap-below : (k s y : ℕ) → s < 2 ^ (8 * k) → y < 256 → s * 256 + y < 2 ^ (8 * (k + 1))
+swap-below k s y below h =
+    let more : 8 * (k + 1) ≡ 8 * k + 8 = omega arith in
+    omega (arith, ap (λ (n : ℕ). 2 ^ n) more ∙ pow-add 2 (8 * k) 8)
+
 -- an `or` that is 0 is of two numbers that are
-or-none : (a b : ℕ) → bitOr a b ≡ 0 → (a ≡ 0) × (b ≡ 0)
+pub or-none : (a b : ℕ) → bitOr a b ≡ 0 → (a ≡ 0) × (b ≡ 0)
 or-none a b e =
     let sum : bitOr a b + bitAnd a b ≡ a + b = or-add-and a b in
     (omega (arith, and-le-r a b), omega (arith, and-le-l a b))
@@ -236,14 +318,18 @@ none-set e (column ∷ columns) page pitch r c q =
     none-set e columns page pitch r (c + 1) (parts .1)
     ∙ ap (λ (dots : List ℕ). blacken-all page (dots ++ more)) (no-dots e column r g (parts .0))
 
+-- n columns of a line are n
+pub part-long : (line : List ℕ) (c n : ℕ) → c + n ≤ length line → length (take n (drop c line)) ≡ n
+part-long line c n inside = length-take-le n (drop c line) (omega (arith, length-drop c line))
+
+-- column k of them is column c + k of the line
+pub part-at : (line : List ℕ) (c n k : ℕ) → k < n → getD (take n (drop c line)) k 0 ≡ getD line (c + k) 0
+part-at line c n k h = getD-take n (drop c line) k 0 h ∙ getD-drop c line k 0
+
 module _ (line : List ℕ) (c : ℕ) (inside : c + 8 ≤ length line) where
   -- eight columns are eight
   pub eight-long : length (take 8 (drop c line)) ≡ 8
-  eight-long = length-take-le 8 (drop c line) (omega (arith, length-drop c line))
-
-  -- column k of the eight is column c + k of the line
-  pub eight-at : (k : ℕ) → k < 8 → getD (take 8 (drop c line)) k 0 ≡ getD line (c + k) 0
-  eight-at k h = getD-take 8 (drop c line) k 0 h ∙ getD-drop c line k 0
+  eight-long = part-long line c 8 inside
 
   -- column k of the eight is put below the fields
   pub field-more : (base skip k f all : ℕ) → k < 8 → fields base skip (drop k (take 8 (drop c line))) f ≡ all
@@ -253,31 +339,9 @@ module _ (line : List ℕ) (c : ℕ) (inside : c + 8 ≤ length line) where
       let eight : List ℕ = take 8 (drop c line) in
       let within : k < length eight = omega (arith, eight-long) in
       let first : drop k eight ≡ getD eight k 0 ∷ drop (k + 1) eight = rw (add-one, drop-cons eight k 0) in
-      ap (λ (x : ℕ). fields base skip (drop (k + 1) eight) (f * base + x / 2 ^ skip % base)) (sym (eight-at k h))
+      ap (λ (x : ℕ). fields base skip (drop (k + 1) eight) (f * base + x / 2 ^ skip % base)) (sym (part-at line c 8 k h))
       ∙ ap (λ (l : List ℕ). fields base skip l f) (sym first)
       ∙ so-far
-
-  -- behind the eighth column there is none
-  pub any-none : 0 ≡ any-wires (drop 8 (take 8 (drop c line)))
-  unfolding any-wires
-  any-none = let all : length (take 8 (drop c line)) ≤ 8 = omega (arith, eight-long) in ap any-wires (sym (drop-of-length-le (take 8 (drop c line)) all))
-
-  -- the column before column k is joined to the wires of those from k on
-  pub any-more : (k any : ℕ) → 0 < k → k ≤ 8 → any ≡ any-wires (drop k (take 8 (drop c line)))
-      → bitOr (getD line (c + (k - 1)) 0) any ≡ any-wires (drop (k - 1) (take 8 (drop c line)))
-  unfolding any-wires
-  any-more k any h most so-far =
-      let eight : List ℕ = take 8 (drop c line) in
-      let within : k - 1 < length eight = omega (arith, eight-long) in
-      let same : suc (k - 1) ≡ k = omega arith in
-      let first : drop (k - 1) eight ≡ getD eight (k - 1) 0 ∷ drop k eight =
-      drop-cons eight (k - 1) 0 within ∙ ap (λ (n : ℕ). getD eight (k - 1) 0 ∷ drop n eight) same in
-      ap₂ bitOr (sym (eight-at (k - 1) (omega arith))) so-far ∙ ap any-wires (sym first)
-
-  -- from column 0 on there are all
-  pub any-all : (k any : ℕ) → k ≤ 0 → any ≡ any-wires (drop k (take 8 (drop c line))) → any ≡ any-wires (take 8 (drop c line))
-  any-all zero any h so-far = so-far
-  any-all (suc k) any h so-far = absurd (omega arith)
 
   -- after the eighth column the fields are whole
   pub field-last : (base skip k f all : ℕ) → k ≡ 8 → fields base skip (drop k (take 8 (drop c line))) f ≡ all → f ≡ all
@@ -286,6 +350,29 @@ module _ (line : List ℕ) (c : ℕ) (inside : c + 8 ≤ length line) where
       let eight : List ℕ = take 8 (drop c line) in
       let none : drop k eight ≡ [] = ap (λ (n : ℕ). drop n eight) (e ∙ sym eight-long) ∙ drop-length eight in
       ap (λ (l : List ℕ). fields base skip l f) (sym none) ∙ so-far
+
+module _ (line : List ℕ) (c n : ℕ) (inside : c + n ≤ length line) where
+  -- behind the last column there is none
+  pub any-none : 0 ≡ any-wires (drop n (take n (drop c line)))
+  unfolding any-wires
+  any-none = let all : length (take n (drop c line)) ≤ n = omega (arith, part-long line c n inside) in ap any-wires (sym (drop-of-length-le (take n (drop c line)) all))
+
+  -- the column before column k is joined to the wires of those from k on
+  pub any-more : (k any : ℕ) → 0 < k → k ≤ n → any ≡ any-wires (drop k (take n (drop c line)))
+      → bitOr (getD line (c + (k - 1)) 0) any ≡ any-wires (drop (k - 1) (take n (drop c line)))
+  unfolding any-wires
+  any-more k any h most so-far =
+      let some : List ℕ = take n (drop c line) in
+      let within : k - 1 < length some = omega (arith, part-long line c n inside) in
+      let same : suc (k - 1) ≡ k = omega arith in
+      let first : drop (k - 1) some ≡ getD some (k - 1) 0 ∷ drop k some =
+      drop-cons some (k - 1) 0 within ∙ ap (λ (i : ℕ). getD some (k - 1) 0 ∷ drop i some) same in
+      ap₂ bitOr (sym (part-at line c n (k - 1) (omega arith))) so-far ∙ ap any-wires (sym first)
+
+  -- from column 0 on there are all
+  pub any-all : (k any : ℕ) → k ≤ 0 → any ≡ any-wires (drop k (take n (drop c line))) → any ≡ any-wires (take n (drop c line))
+  any-all zero any h so-far = so-far
+  any-all (suc k) any h so-far = absurd (omega arith)
 
 -- a field more takes five bits more at most
 pub field-below : (f base y k : ℕ) → base ≤ 32 → y < base → f < 2 ^ (5 * k) → f * base + y < 2 ^ (5 * (k + 1))

@@ -1,11 +1,11 @@
 -- The columns of a line struck some at a time, and where eight of them stand on the page.
 use Prim.Native.Nat.{ℕ, _+_, _*_, _/_, _%_, _≤_, _<_}
 use mathlib.Core.Path.{_≡_, refl, sym, ap, ap₂, _∙_}
-use mathlib.Core.List.{List, [], _∷_, _++_, append-assoc, append-nil}
+use mathlib.Core.List.{List, [], _∷_, _++_, append-assoc}
 use native.Mathlib.Omega.{arith}
 use native.Mathlib.Nat.{add-zero, zero-add, mul-assoc}
-use lib.ListN.{length, getD, take, drop, length-drop, take-append-drop}
-use lib.Seq.{length-take-le, take-append-le, drop-append-le, drop-drop, drop-cons, drop-length}
+use lib.ListN.{length, take, drop, length-drop, take-append-drop}
+use lib.Seq.{length-take-le, take-append-le, drop-append-le, drop-drop, drop-length}
 use Rattle.sheet.specs.declared.Grid.{Grid}
 use Rattle.sheet.specs.declared.Model.{Model}
 use Rattle.sheet.specs.declared.Model.the-variants.{Lp2, Dg6215}
@@ -120,17 +120,6 @@ module _ (e : Edition) (columns : List ℕ) (pitch : Pitch) (r : Row) (c : ℕ) 
         kept = ap length is ∙ length-blacken-all page _ ∙ left .kept;
       }
 
-  -- so it is with one column
-  pub one-struck : (page next : List ℕ) (n : ℕ) → n < length columns → Left e columns pitch r c entry n page
-      → next ≡ blacken-all page (column-marks e (getD columns n 0) r (e .grid pitch (c + n))) → Left e columns pitch r c entry (n + 1) next
-  unfolding line-marks
-  one-struck page next n inside left is =
-      let one : getD columns n 0 ∷ [] ≡ take 1 (drop n columns) = ap (take 1) (sym (drop-cons columns n 0 inside)) in
-      some-struck page next n 1 (omega arith) left
-      (is
-      ∙ ap (blacken-all page) (sym (append-nil _))
-      ∙ ap (λ (l : List ℕ). blacken-all page (line-marks e l pitch r (c + n))) one)
-
   -- at the end none is left
   pub none-left : (page : List ℕ) (n : ℕ) → Left e columns pitch r c entry n page → length columns ≤ n
       → page ≡ blacken-all entry (line-marks e columns pitch r c)
@@ -140,38 +129,59 @@ module _ (e : Edition) (columns : List ℕ) (pitch : Pitch) (r : Row) (c : ℕ) 
       let none : drop n columns ≡ [] = ap (λ (k : ℕ). drop k columns) last ∙ drop-length columns in
       sym (ap (λ (l : List ℕ). blacken-all page (line-marks e l pitch r (c + n))) none) ∙ left .same
 
--- of the columns below w, eight from c on are eight of the line
-eight-of : (line : List ℕ) (w c : ℕ) → w ≤ length line → c + 8 ≤ w → take 8 (drop c line) ≡ take 8 (drop c (take w line))
-eight-of line w c within inside =
+-- of the columns below w, n from c on are n of the line
+part-of : (line : List ℕ) (w c n : ℕ) → w ≤ length line → c + n ≤ w → take n (drop c line) ≡ take n (drop c (take w line))
+part-of line w c n within inside =
     let low : List ℕ = take w line in
     let size : length low ≡ w = length-take-le w line within in
-    ap (λ (l : List ℕ). take 8 (drop c l)) (sym (take-append-drop w line))
-    ∙ ap (take 8) (drop-append-le c low (drop w line) (omega arith))
-    ∙ take-append-le 8 (drop c low) (drop w line) (omega (arith, length-drop c low))
+    ap (λ (l : List ℕ). take n (drop c l)) (sym (take-append-drop w line))
+    ∙ ap (take n) (drop-append-le c low (drop w line) (omega arith))
+    ∙ take-append-le n (drop c low) (drop w line) (omega (arith, length-drop c low))
 
--- The positions before c of a line are struck, eights of them.
+-- How many positions are struck together: eight columns of an LP2, and of a 6215's positions eighty, eights of which are struck together.
+abbrev pub together : Model → ℕ
+together Lp2 = 8
+together Dg6215 = 80
+
+-- W is a multiple of so many
+together-below : (w : Model) (pitch : Pitch) (c : ℕ) → c % together w ≡ 0 → c < described w .width pitch → c + together w ≤ described w .width pitch
+unfolding lp2 dg6215
+together-below Lp2 Normal c h l = omega arith
+together-below Lp2 Compressed c h l = omega arith
+together-below Dg6215 pitch c h l = omega arith
+
+together-next : (w : Model) (c : ℕ) → c % together w ≡ 0 → (c + together w) % together w ≡ 0
+together-next Lp2 c h = omega arith
+together-next Dg6215 c h = omega arith
+
+together-none : (w : Model) → 0 % together w ≡ 0
+together-none Lp2 = refl
+together-none Dg6215 = refl
+
+-- The positions before c of a line are struck, so many at a time.
 pub record Walked (w : Model) (line : List ℕ) (pitch : Pitch) (r : Row) (entry : List ℕ) (c : ℕ) (page : List ℕ) : Type 0 where
   pub left : Left (described w) (take (described w .width pitch) line) pitch r 0 entry c page
-  pub whole : c % 8 ≡ 0
+  pub whole : c % together w ≡ 0
 
 module _ (w : Model) (line : List ℕ) (pitch : Pitch) (r : Row) (entry : List ℕ) where
   pub none-walked : Walked w line pitch r entry 0 entry
-  none-walked = record { left = all-left _ _ _ _ _ _; whole = refl }
+  none-walked = record { left = all-left _ _ _ _ _ _; whole = together-none w }
 
-  -- eight positions more
-  pub eight-struck : (page next : List ℕ) (c : ℕ) → length line ≡ described w .columns → Walked w line pitch r entry c page
-      → c < described w .width pitch → next ≡ blacken-all page (line-marks (described w) (take 8 (drop c line)) pitch r c)
-      → Walked w line pitch r entry (c + 8) next
-  eight-struck page next c full walked below is =
+  -- so many positions more
+  pub walked-more : (page next : List ℕ) (c : ℕ) → length line ≡ described w .columns → Walked w line pitch r entry c page
+      → c < described w .width pitch → next ≡ blacken-all page (line-marks (described w) (take (together w) (drop c line)) pitch r c)
+      → Walked w line pitch r entry (c + together w) next
+  walked-more page next c full walked below is =
       let e : Edition = described w in
       let width : ℕ = e .width pitch in
       let within : width ≤ length line = omega (arith, described-proper w .wide pitch) in
-      let inside : c + 8 ≤ width = eight-below w pitch c (walked .whole) below in
+      let inside : c + together w ≤ width = together-below w pitch c (walked .whole) below in
       let long : length (take width line) ≡ width = length-take-le width line within in
-      let same = ap₂ (λ (l : List ℕ) (k : ℕ). blacken-all page (line-marks e l pitch r k)) (eight-of line width c within inside) (sym (zero-add c)) in
+      let same =
+      ap₂ (λ (l : List ℕ) (k : ℕ). blacken-all page (line-marks e l pitch r k)) (part-of line width c (together w) within inside) (sym (zero-add c)) in
       record {
-        left = some-struck e (take width line) pitch r 0 entry page next c 8 (omega arith) (walked .left) (is ∙ same);
-        whole = omega (arith, walked .whole);
+        left = some-struck e (take width line) pitch r 0 entry page next c (together w) (omega arith) (walked .left) (is ∙ same);
+        whole = together-next w c (walked .whole);
       }
 
   -- at W the line is struck
@@ -182,3 +192,39 @@ module _ (w : Model) (line : List ℕ) (pitch : Pitch) (r : Row) (entry : List �
       let width : ℕ = described w .width pitch in
       let long : length (take width line) ≡ width = length-take-le width line (omega (arith, described-proper w .wide pitch)) in
       none-left (described w) (take width line) pitch r 0 entry page c (walked .left) (omega arith)
+
+-- eighty positions of a 6215 from a multiple of eighty on are on the line
+pub eighty-on-line : (line : List ℕ) (pitch : Pitch) (c : ℕ) → c % 80 ≡ 0 → c < dg6215 .width pitch → length line ≡ dg6215 .columns
+    → c + 80 ≤ length line
+eighty-on-line line pitch c h l full = omega (arith, together-below Dg6215 pitch c h l, described-proper Dg6215 .wide pitch)
+
+-- Of the eighty positions from c on of a line of a 6215, the first k are struck, eights of them.
+pub record EightyLeft (line : List ℕ) (pitch : Pitch) (r : Row) (c : ℕ) (entry : List ℕ) (k : ℕ) (page : List ℕ) : Type 0 where
+  pub left : Left dg6215 (take 80 (drop c line)) pitch r c entry k page
+  pub whole : k % 8 ≡ 0
+
+module _ (line : List ℕ) (pitch : Pitch) (r : Row) (c : ℕ) (entry : List ℕ) (inside : c + 80 ≤ length line) where
+  pub eighty-left : EightyLeft line pitch r c entry 0 entry
+  eighty-left = record { left = all-left _ _ _ _ _ _; whole = refl }
+
+  -- eight positions more
+  pub eight-more : (page next : List ℕ) (k : ℕ) → EightyLeft line pitch r c entry k page → k < 80
+      → next ≡ blacken-all page (line-marks dg6215 (take 8 (drop (c + k) line)) pitch r (c + k)) → EightyLeft line pitch r c entry (k + 8) next
+  eight-more page next k eighty more is =
+      let long : length (take 80 (drop c line)) ≡ 80 = length-take-le 80 (drop c line) (omega (arith, length-drop c line)) in
+      let fit : k + 8 ≤ 80 = omega (arith, eighty .whole) in
+      let same : take 8 (drop (c + k) line) ≡ take 8 (drop k (take 80 (drop c line))) =
+      ap (take 8) (sym (drop-drop k c line)) ∙ part-of (drop c line) 80 k 8 (omega (arith, length-drop c line)) fit in
+      record {
+        left =
+            some-struck dg6215 (take 80 (drop c line)) pitch r c entry page next k 8 (omega arith) (eighty .left)
+            (is ∙ ap (λ (l : List ℕ). blacken-all page (line-marks dg6215 l pitch r (c + k))) same);
+        whole = omega (arith, eighty .whole);
+      }
+
+  -- after the eightieth none is left
+  pub eighty-struck : (page : List ℕ) (k : ℕ) → EightyLeft line pitch r c entry k page → 80 ≤ k
+      → page ≡ blacken-all entry (line-marks dg6215 (take 80 (drop c line)) pitch r c)
+  eighty-struck page k eighty end =
+      let long : length (take 80 (drop c line)) ≡ 80 = length-take-le 80 (drop c line) (omega (arith, length-drop c line)) in
+      none-left dg6215 (take 80 (drop c line)) pitch r c entry page k (eighty .left) (omega arith)

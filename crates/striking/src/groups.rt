@@ -8,7 +8,7 @@ ghost use Rattle.sheet.specs.declared.Row.{Row};
 ghost use Rattle.sheet.specs.declared.Pitch.the-variants.{Normal, Compressed};
 ghost use Rattle.sheet.specs.Edition.{lp2};
 ghost use Rattle.sheet.specs.Dots.{blacken-all, dot-at, line-marks};
-ghost use Rattle.striking.specs.Groups.{any-wires, fields, wire-dots, join-byte, join};
+ghost use Rattle.striking.specs.Groups.{any-wires, fields, wire-dots, join-byte, join, side-by-side, swapped};
 ghost use Rattle.striking.specs.Room.{Room};
 use sheet::Model;
 use sheet::Pitch;
@@ -17,18 +17,28 @@ use sheet::counts::page_byte;
 use sheet::sizes::LP2_ROW_BYTES;
 use sheet::sizes::grid;
 
-// The wires that any of the eight columns from c on has.
-pub(crate) fn any_wires(line: &[u16], c: usize) -> u16
-    requires { ⌜ c + 8 ≤ length (now line) ⌝ }
-    ensures { λ r. ⌜ r ≡ any-wires (take 8 (drop c (now (line .entry)))) ⌝ }
+// The wires that any of the n columns from c on has.
+pub(crate) fn any_wires(line: &[u16], c: usize, n: usize) -> u16
+    requires { ⌜ c + n ≤ length (now line) ⌝ }
+    ensures { λ r. ⌜ r ≡ any-wires (take n (drop c (now (line .entry)))) ⌝ }
 {
     let mut any: u16 = 0;
-    let mut k = 8;
+    let mut k = n;
     while 0 < k {
         k -= 1;
         any = line[c + k] | any;
     }
     any
+}
+
+// The four columns from c on side by side in one number, the first lowest.
+pub(crate) fn four(line: &[u16], c: usize) -> u64
+    requires { ⌜ c + 4 ≤ length (now line) ⌝ }
+    ensures { λ r. ⌜ r ≡ side-by-side (take 4 (drop c (now (line .entry)))) ⌝ }
+{
+    let low = line[c] as u64 + line[c + 1] as u64 * 0x10000;
+    let high = line[c + 2] as u64 + line[c + 3] as u64 * 0x10000;
+    low + high * 0x100000000
 }
 
 // Puts some wires of each of the eight columns from c on into one number, side by side in fields of one size, the first column's field
@@ -55,18 +65,32 @@ pub(crate) fn join_byte(page: &mut [u8], i: usize, dots: u64)
     page[i] = page[i] | ((dots % 256) as u8);
 }
 
+// A number's eight bytes in the other order.
+fn swapped(n: u64) -> u64
+    ensures { λ r. ⌜ r ≡ swapped 8 n 0 ⌝ }
+{
+    let mut s: u64 = 0;
+    let mut k: u32 = 0;
+    while k < 8 {
+        s = s * 256 + (n >> (8 * k)) % 256;
+        k += 1;
+    }
+    s
+}
+
 // Strikes one wire of eight columns in normal pitch: the one at bit `wire` of each field. Its dots are in the five bytes from `at` on.
-// The mask keeps one bit of each field of five, and a column's dot is at the top of its five positions.
+// The mask keeps one bit of each field of five, and a column's dot is at the top of its five positions. The five bytes are moved to the number's top
+// and swapped, so that the first is lowest, and the compiler joins four of them at once.
 fn wire_normal(page: &mut [u8], at: usize, fields: u64, wire: u32)
     requires { ⌜ (at + 5 ≤ length (now page)) × (wire < 5) ⌝ }
     ensures { λ _. ⌜ now (page .exit) ≡ join (now (page .entry)) at 5 (wire-dots 32 fields wire) ⌝ }
 {
-    let dots = ((fields >> wire) & 0x842108421) * 16;
-    join_byte(page, at, dots / 0x100000000);
-    join_byte(page, at + 1, dots / 0x1000000);
+    let dots = swapped(((fields >> wire) & 0x842108421) * 16 * 0x1000000);
+    join_byte(page, at, dots);
+    join_byte(page, at + 1, dots / 0x100);
     join_byte(page, at + 2, dots / 0x10000);
-    join_byte(page, at + 3, dots / 0x100);
-    join_byte(page, at + 4, dots);
+    join_byte(page, at + 3, dots / 0x1000000);
+    join_byte(page, at + 4, dots / 0x100000000);
 }
 
 // Strikes one wire of eight columns in compressed pitch: the one at bit `wire` of each field. Its dots are in the three bytes from `at` on.
@@ -148,7 +172,7 @@ pub(crate) fn eight_columns(page: &mut [u8], line: &[u16], row: Row, pitch: Pitc
     requires { ⌜ (c % 8 ≡ 0) × (c < lp2 .width pitch) ⌝ }
     ensures { λ _. ⌜ now (page .exit) ≡ blacken-all (now (page .entry)) (line-marks lp2 (take 8 (drop c (now (line .entry)))) pitch row c) ⌝ }
 {
-    if any_wires(line, c) == 0 {
+    if four(line, c) | four(line, c + 4) == 0 {
         return;
     }
     let at = page_byte(Model::Lp2, row, grid(Model::Lp2, pitch, c));

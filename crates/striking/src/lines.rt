@@ -5,7 +5,7 @@ ghost use Rattle.sheet.specs.Form.{empty-line};
 ghost use Rattle.sheet.specs.Dots.{struck};
 ghost use Rattle.striking.specs.Room.{Room};
 use crate::groups::eight_columns;
-use crate::positions::eight_positions;
+use crate::positions::eighty_positions;
 use sheet::Model;
 use sheet::Pitch;
 use sheet::Row;
@@ -25,7 +25,7 @@ fn columns(page: &mut [u8], line: &[u16], row: Row, pitch: Pitch)
     }
 }
 
-// Strikes the positions below W of a line of the 6215, eight at a time.
+// Strikes the positions below W of a line of the 6215, eighty at a time: W is a multiple of eighty.
 fn positions(page: &mut [u8], line: &[u16], row: Row, pitch: Pitch)
     requires { ⌜ Room dg6215 (now page) (now line) row ⌝ }
     ensures { λ _. ⌜ now (page .exit) ≡ struck dg6215 (now (page .entry)) (now (line .entry)) row pitch ⌝ }
@@ -33,8 +33,8 @@ fn positions(page: &mut [u8], line: &[u16], row: Row, pitch: Pitch)
     let w = width(Model::Dg6215, pitch);
     let mut position = 0;
     while position < w {
-        eight_positions(page, line, row, pitch, position);
-        position += 8;
+        eighty_positions(page, line, row, pitch, position);
+        position += 80;
     }
 }
 

@@ -2,9 +2,10 @@
 -- that byte.
 mod Places
 use Prim.Native.Nat.{ℕ, _+_, _≤_}
-use mathlib.Core.Path.{_≡_, sym, ap, _∙_}
+use mathlib.Core.Path.{_≡_, sym, ap, ap₂, _∙_}
 use mathlib.Core.List.{List}
 use native.Mathlib.Omega.{arith}
+use lib.Bits.{bitOr}
 use lib.ListN.{length, take, drop}
 use borrow.Author.Needs.{needs}
 use Rattle.sheet.specs.declared.Grid.{Grid}
@@ -16,6 +17,7 @@ use Rattle.sheet.specs.Dots.{blacken-all, line-marks}
 use Rattle.sheet.proofs.Editions.{described-bounded, described-proper, lp2-row}
 use Rattle.striking.proofs.Grouping.{none-set}
 use Rattle.striking.proofs.Striking.{on-line, Placed, placed}
+use Rattle.striking.proofs.Turning.{eight-none}
 use Rattle.striking.proofs.groups.eight_columns.Statement.{statement}
 use Rattle.striking.proofs.groups.eight_columns.Tie as tie
 use Places.*
@@ -38,7 +40,10 @@ begin c pitch told =
     placed Lp2 _ (s .args .line .now) _ _ pitch _ _ _ (s .pre .0) (s .pre .1 .0) (s .pre .1 .1) told (c .before .grid .ensures) (c .page-byte .ensures)
 
 returns : tie.Need-returns
-returns c = none-set lp2 _ _ _ _ _ (omega (arith, c .before .any-wires .ensures, c .if1))
+returns c =
+    let a = start-at-returns c .args in
+    none-set lp2 _ _ _ _ _
+    (eight-none (a .line .now) (a .c) (sym (ap₂ bitOr (c .before .before .four .ensures) (c .before .four2 .ensures)) ∙ c .if1 .taken))
 
 grid-requires : tie.Need-grid-requires
 grid-requires c κs =
@@ -75,5 +80,6 @@ returns-3 c =
 pub eight-columns-spec : {M : Type 1} → statement M
 eight-columns-spec =
     tie.close
-    (tie.spec (λ c κs. inside (c .before .before)) returns grid-requires page-byte-requires (λ c. search needs)
+    (tie.spec (λ c κs. omega (arith, inside (c .before .before))) (λ c. search needs) (λ c κs. omega (arith, inside (c .before .before .before))) returns
+    grid-requires page-byte-requires (λ c. search needs)
     eight-normal-requires (λ c. search needs) eight-compressed-requires (λ c. search needs) returns-2 (λ c. search needs) returns-3)

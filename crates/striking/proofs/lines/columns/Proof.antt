@@ -7,7 +7,7 @@ use borrow.Author.Needs.{needs}
 use Rattle.sheet.specs.declared.Model.the-variants.{Lp2}
 use Rattle.sheet.specs.Edition.{lp2}
 use Rattle.sheet.proofs.Editions.{described-proper}
-use Rattle.striking.proofs.Striking.{Walked, none-walked, eight-struck, all-walked}
+use Rattle.striking.proofs.Striking.{Walked, none-walked, walked-more, all-walked}
 use Rattle.striking.proofs.lines.columns.Statement.{statement}
 use Rattle.striking.proofs.lines.columns.Tie as tie
 use Places.*
@@ -35,7 +35,7 @@ add-column c = omega (arith, below (in-loop-at-add-column c), described-proper L
 
 loop-again : tie.Need-loop-again Inv-loop μ-loop
 loop-again c =
-    eight-struck Lp2 _ _ _ _ _ _ _ (start-at-loop-again c .pre .full) (loop-at-loop-again c .loop .inv) (below (in-loop-at-loop-again c))
+    walked-more Lp2 _ _ _ _ _ _ _ (start-at-loop-again c .pre .full) (loop-at-loop-again c .loop .inv) (below (in-loop-at-loop-again c))
     (c .before .before .eight-columns .ensures)
 
 returns : tie.Need-returns Inv-loop μ-loop

@@ -1,4 +1,4 @@
--- `lines::positions`: each turn strikes the eight positions that are next; those left make of the page what all make of it at entry, and at W none is
+-- `lines::positions`: each turn strikes the eighty positions that are next; those left make of the page what all make of it at entry, and at W none is
 -- left.
 mod Places
 use Prim.Native.Nat.{_-_, _<_}
@@ -7,7 +7,7 @@ use borrow.Author.Needs.{needs}
 use Rattle.sheet.specs.declared.Model.the-variants.{Dg6215}
 use Rattle.sheet.specs.Edition.{dg6215}
 use Rattle.sheet.proofs.Editions.{described-proper}
-use Rattle.striking.proofs.Striking.{Walked, none-walked, eight-struck, all-walked}
+use Rattle.striking.proofs.Striking.{Walked, none-walked, walked-more, all-walked}
 use Rattle.striking.proofs.lines.positions.Statement.{statement}
 use Rattle.striking.proofs.lines.positions.Tie as tie
 use Places.*
@@ -24,9 +24,9 @@ loop-holds c = none-walked _ _ _ _ _
 below : (c : tie.In-loop Inv-loop μ-loop) → c .before .loop .position < dg6215 .width (start-at-in-loop c .args .pitch)
 below c = omega (arith, c .loop-test, c .before .before .width .ensures)
 
-eight-positions-requires : tie.Need-eight-positions-requires Inv-loop μ-loop
-eight-positions-requires c κs =
-    let room = start-at-eight-positions-requires c .pre in
+eighty-positions-requires : tie.Need-eighty-positions-requires Inv-loop μ-loop
+eighty-positions-requires c κs =
+    let room = start-at-eighty-positions-requires c .pre in
     let walked = c .before .before .loop .inv in
     (record { rows = omega (arith, room .rows, walked .left .kept); full = room .full }, (walked .whole, below (c .before)))
 
@@ -35,8 +35,8 @@ add-position c = omega (arith, below (in-loop-at-add-position c), described-prop
 
 loop-again : tie.Need-loop-again Inv-loop μ-loop
 loop-again c =
-    eight-struck Dg6215 _ _ _ _ _ _ _ (start-at-loop-again c .pre .full) (loop-at-loop-again c .loop .inv) (below (in-loop-at-loop-again c))
-    (c .before .before .eight-positions .ensures)
+    walked-more Dg6215 _ _ _ _ _ _ _ (start-at-loop-again c .pre .full) (loop-at-loop-again c .loop .inv) (below (in-loop-at-loop-again c))
+    (c .before .before .eighty-positions .ensures)
 
 returns : tie.Need-returns Inv-loop μ-loop
 returns c =
@@ -45,5 +45,5 @@ returns c =
 pub positions-spec : {M : Type 1} → statement M
 positions-spec =
     tie.close
-    (tie.spec Inv-loop μ-loop (λ c κs. search needs) loop-holds eight-positions-requires add-position (λ c. search needs) loop-again
+    (tie.spec Inv-loop μ-loop (λ c κs. search needs) loop-holds eighty-positions-requires add-position (λ c. search needs) loop-again
     (λ c. c .before .loop .inv .left .kept) returns)

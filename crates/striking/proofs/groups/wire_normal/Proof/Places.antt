@@ -13,3 +13,7 @@ join-byte3-at-returns c = c .before .before .before .before .before .before .bef
 
 abbrev pub join-byte4-at-returns : tie.After-slice-known6 → tie.After-join-byte4
 join-byte4-at-returns c = c .before .before .before .before .before .before
+
+abbrev pub swapped-at-returns : tie.After-slice-known6 → tie.After-swapped
+swapped-at-returns c = c .before .before .before .before .before .before .before .before .before .before .before .before .before .before .before
+    .before .before .before .before .before

@@ -14,8 +14,8 @@ module _ {Inv-loop : tie.InvT-loop} {μ-loop : tie.MeasureT-loop} where
   abbrev pub start-at-add-position : tie.After-slice-known2 Inv-loop μ-loop → tie.Start Inv-loop μ-loop
   start-at-add-position c = c .before .before .before .before .before .before .before .before .before
 
-  abbrev pub start-at-eight-positions-requires : tie.After-eight-positions-arg Inv-loop μ-loop → tie.Start Inv-loop μ-loop
-  start-at-eight-positions-requires c = c .before .before .before .before .before .before
+  abbrev pub start-at-eighty-positions-requires : tie.After-eighty-positions-arg Inv-loop μ-loop → tie.Start Inv-loop μ-loop
+  start-at-eighty-positions-requires c = c .before .before .before .before .before .before
 
   abbrev pub start-at-in-loop : tie.In-loop Inv-loop μ-loop → tie.Start Inv-loop μ-loop
   start-at-in-loop c = c .before .before .before .before .before
