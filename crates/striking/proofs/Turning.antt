@@ -1,4 +1,4 @@
--- Eight columns turned into nine wires: a number made of others by masks, `or` and shifts has bits that are bits of those, and which they are is
+-- Eight columns turned into nine wires: a number made of two others by masks, `or` and shifts has bits that are bits of those, and which they are is
 -- computed.
 use Prim.Native.Nat.{ℕ, zero, suc, _+_, _-_, _*_, _/_, _%_, _^_, _≤_, _<_}
 use mathlib.Core.Bool.{Bool, true, false, cond, not, _&&_}
@@ -14,24 +14,9 @@ use lib.ListN.{length, getD, set, take, drop, length-append, length-take, List·
 use lib.Seq.{drop-append-seam, drop-cons, drop-drop, getD-drop, take-add}
 use Rattle.sheet.specs.Dots.{bit, blacken-all}
 use Rattle.sheet.proofs.Bits.{bit-lt, bit-or, or-assoc}
-use Rattle.striking.specs.Groups.{any-wires, fields, ones, wire-dots, join-byte, join, side-by-side, turn, turned, topmost}
+use Rattle.striking.specs.Groups.{any-wires, fields, ones, wire-dots, join-byte, join, side-by-side}
+use Rattle.striking.specs.Turning.{Made, front, back, masked, joined, higher, lower, made, turn, turned, topmost}
 use Rattle.striking.proofs.Grouping.{part-at, or-none, bit-is, low-bit, moved-bit, wire-row, wire-joined}
-
--- A number made of two others, the first and the second, each of 64 bits.
-pub data Made : Type 0 where
-  first second : Made
-  masked : ℕ → Made → Made
-  joined : Made → Made → Made
-  higher lower : ℕ → Made → Made
-
--- the number, of two numbers a and b: `higher` and `lower` move it by so many bits
-unfoldable pub made : ℕ → ℕ → Made → ℕ
-made a b first = a
-made a b second = b
-made a b (masked m x) = bitAnd (made a b x) m
-made a b (joined x y) = bitOr (made a b x) (made a b y)
-made a b (higher s x) = made a b x * 2 ^ s
-made a b (lower s x) = made a b x / 2 ^ s
 
 -- a list where a bit is 1, none where it is 0
 unfoldable where-set : ℕ → List ℕ → List ℕ
@@ -40,39 +25,21 @@ where-set (suc _) l = l
 
 -- the bits of which bit j of the number is made: bit k of a is k, bit k of b 64 + k
 unfoldable sources : Made → ℕ → List ℕ
-sources first j = cond (ltb j 64) ((0 + j) ∷ []) []
-sources second j = cond (ltb j 64) ((64 + j) ∷ []) []
+sources front j = cond (ltb j 64) ((0 + j) ∷ []) []
+sources back j = cond (ltb j 64) ((64 + j) ∷ []) []
 sources (masked m x) j = where-set (bit m j) (sources x j)
 sources (joined x y) j = sources x j ++ sources y j
 sources (higher s x) j = cond (leb s j) (sources x (j - s)) []
 sources (lower s x) j = sources x (s + j)
 
--- the numbers of the definitions, so made
-unfoldable turn-made : ℕ → ℕ → ℕ → Made → Made
-turn-made kept moved s x = joined (joined (masked kept x) (higher s (masked moved x))) (masked moved (lower s x))
-
-unfoldable turned-made : Made
-turned-made =
-    turn-made 0x5555AAAA5555AAAA 0x0000555500005555 17
-    (turn-made 0x33333333CCCCCCCC 0x0000000033333333 34
-    (turn-made 0x0FF00FF00FF00FF0 0x000F000F000F000F 12
-    (joined (masked 0x00FF00FF00FF00FF first) (higher 8 (masked 0x00FF00FF00FF00FF second)))))
-
-unfoldable topmost-made : Made
-topmost-made =
-    let apart : Made =
-    joined (higher 7 (masked 0x0001000100010001 (lower 8 first))) (higher 3 (masked 0x0001000100010001 (lower 8 second))) in
-    let near : Made = joined apart (lower 17 apart) in
-    joined near (lower 34 near)
-
 -- the number whose lowest byte has the wire at bit n
 unfoldable wires-made : List Made
 wires-made =
-    lower 56 turned-made ∷ lower 40 turned-made ∷ lower 24 turned-made ∷ lower 8 turned-made ∷ lower 48 turned-made ∷ lower 32 turned-made
-    ∷ lower 16 turned-made ∷ turned-made ∷ topmost-made ∷ []
+    lower 56 turned ∷ lower 40 turned ∷ lower 24 turned ∷ lower 8 turned ∷ lower 48 turned ∷ lower 32 turned
+    ∷ lower 16 turned ∷ turned ∷ topmost ∷ []
 
 unfoldable wire-made : ℕ → Made
-wire-made n = getD wires-made n first
+wire-made n = getD wires-made n front
 
 -- that number, as it is taken of wire 1 and of the eight others turned
 unfoldable pub wire-number : ℕ → ℕ → ℕ → ℕ
@@ -87,9 +54,9 @@ inside [] d e n h = absurd (omega arith)
 inside (x ∷ l) d e zero h = refl
 inside (x ∷ l) d e (suc n) h = inside l d e n (omega arith)
 
-so-made : (a b n : ℕ) → n < 9 → wire-number (topmost a b) (turned a b) n ≡ made a b (wire-made n)
-unfolding wire-number wire-made wires-made made turned-made topmost-made turn-made turned topmost turn
-so-made a b n h = inside (map (made a b) wires-made) 0 a n h ∙ List·getD-map (made a b) wires-made n first
+so-made : (a b n : ℕ) → n < 9 → wire-number (made a b topmost) (made a b turned) n ≡ made a b (wire-made n)
+unfolding wire-number wire-made wires-made made
+so-made a b n h = inside (map (made a b) wires-made) 0 a n h ∙ List·getD-map (made a b) wires-made n front
 
 -- Whether bit 7 - k of that number is bit n of column k alone, for each of nine wires and eight columns.
 unfoldable lone : ℕ → List ℕ → Bool
@@ -115,7 +82,7 @@ all-true (suc n) p h k l = go (decLt k n) (all-true n p (both (p n) (all-below n
     go (no m) others = subst (λ (i : ℕ). T (p i)) (omega arith) (both (p n) (all-below n p) h .0)
 
 each-lone : T (all-below 9 (λ n. all-below 8 (λ k. lone (16 * k + n) (sources (wire-made n) (7 - k)))))
-unfolding sources where-set bit all-below lone wire-made wires-made topmost-made turned-made turn-made
+unfolding sources where-set bit all-below lone wire-made wires-made topmost turned turn
 each-lone = tt
 
 -- the bits of 0
@@ -215,8 +182,8 @@ module _ (a b : ℕ) (a-fits : a < 2 ^ 64) (b-fits : b < 2 ^ 64) (source : ℕ �
   -- each bit of a made number is the `or` of its sources
   made-bit : (x : Made) (j : ℕ) → bit (made a b x) j ≡ any-of (sources x j)
   unfolding made sources
-  made-bit first j = whole a 0 j a-fits one
-  made-bit second j = whole b 64 j b-fits two
+  made-bit front j = whole a 0 j a-fits one
+  made-bit back j = whole b 64 j b-fits two
   made-bit (masked m x) j = bit-masked (made a b x) m j ∙ under-mask (bit (made a b x) j) (bit m j) (sources x j) (bit-lt _ j) (bit-lt m j) (made-bit x j)
   made-bit (joined x y) j = bit-or (made a b x) (made a b y) j ∙ ap₂ bitOr (made-bit x j) (made-bit y j) ∙ any-append (sources x j) (sources y j)
   made-bit (higher s x) j =
@@ -322,7 +289,7 @@ module _ (xs ys : List ℕ) (x-four : length xs ≡ 4) (y-four : length ys ≡ 4
       ∙ ap₂ (λ (k i : ℕ). bit (getD (xs ++ ys) k 0) i) column same
 
   -- the number for each wire strikes it
-  pub wires-strike : let top = topmost (side-by-side xs) (side-by-side ys) in let wires = turned (side-by-side xs) (side-by-side ys) in
+  pub wires-strike : let top = made (side-by-side xs) (side-by-side ys) topmost in let wires = made (side-by-side xs) (side-by-side ys) turned in
       (before : List ℕ) (i n : ℕ) → n < 9 → join before i 1 (wire-number top wires n) ≡ blacken-all before (wire-row n (xs ++ ys) (i * 8) 1)
   unfolding source-of
   wires-strike before i n h =

@@ -10,7 +10,8 @@ ghost use Rattle.sheet.specs.declared.Pitch.{Pitch};
 ghost use Rattle.sheet.specs.declared.Row.{Row};
 ghost use Rattle.sheet.specs.Edition.{dg6215};
 ghost use Rattle.sheet.specs.Dots.{blacken-all, dot-at, line-marks};
-ghost use Rattle.striking.specs.Groups.{side-by-side, turn, turned, topmost};
+ghost use Rattle.striking.specs.Groups.{exchanged, side-by-side};
+ghost use Rattle.striking.specs.Turning.{made, turned, topmost};
 ghost use Rattle.striking.specs.Room.{Room};
 use crate::groups::any_wires;
 use crate::groups::four;
@@ -23,9 +24,9 @@ use sheet::sizes::DG6215_ROW_BYTES;
 use sheet::sizes::grid;
 
 // Exchanges bits of a number: those that `moved` names and those `up` times as high. Those that `kept` names stay.
-fn turn(f: u64, kept: u64, moved: u64, up: u64) -> u64
+fn exchanged(f: u64, kept: u64, moved: u64, up: u64) -> u64
     requires { ⌜ (1 ≤ up) × (moved * up < 2 ^ 64) ⌝ }
-    ensures { λ r. ⌜ r ≡ turn kept moved up f ⌝ }
+    ensures { λ r. ⌜ r ≡ exchanged kept moved up f ⌝ }
 {
     (f & kept) | ((f & moved) * up) | ((f / up) & moved)
 }
@@ -33,17 +34,17 @@ fn turn(f: u64, kept: u64, moved: u64, up: u64) -> u64
 // The eight lowest wires of eight columns, four of which stand side by side in each number: a byte for each wire, the first column's bit highest.
 // From the lowest byte on these are wires 2, 6, 3, 7, 4, 8, 5 and 9.
 fn turned(first: u64, second: u64) -> u64
-    ensures { λ r. ⌜ r ≡ turned first second ⌝ }
+    ensures { λ r. ⌜ r ≡ made first second turned ⌝ }
 {
     let eight = (first & 0x00FF00FF00FF00FF) | ((second & 0x00FF00FF00FF00FF) * 0x100);
-    let once = turn(eight, 0x0FF00FF00FF00FF0, 0x000F000F000F000F, 0x1000);
-    let twice = turn(once, 0x33333333CCCCCCCC, 0x0000000033333333, 0x400000000);
-    turn(twice, 0x5555AAAA5555AAAA, 0x0000555500005555, 0x20000)
+    let once = exchanged(eight, 0x0FF00FF00FF00FF0, 0x000F000F000F000F, 0x1000);
+    let twice = exchanged(once, 0x33333333CCCCCCCC, 0x0000000033333333, 0x400000000);
+    exchanged(twice, 0x5555AAAA5555AAAA, 0x0000555500005555, 0x20000)
 }
 
 // Wire 1 of eight columns, four of which stand side by side in each number: in the lowest byte, the first column's bit highest.
 fn topmost(first: u64, second: u64) -> u64
-    ensures { λ r. ⌜ r ≡ topmost first second ⌝ }
+    ensures { λ r. ⌜ r ≡ made first second topmost ⌝ }
 {
     let apart = (((first / 0x100) & 0x0001000100010001) * 0x80)
         | (((second / 0x100) & 0x0001000100010001) * 0x8);
@@ -56,7 +57,7 @@ fn nine_wires(page: &mut [u8], at: usize, top: u64, wires: u64)
     requires { ⌜ at + 6801 ≤ length (now page) ⌝ }
     ensures { λ _. ⌜ ((xs ys : List ℕ) (pitch : Pitch) (r : Row) (c : ℕ) → length xs ≡ 4 → length ys ≡ 4
         → ((k : ℕ) → getD xs k 0 < 2 ^ 16) → ((k : ℕ) → getD ys k 0 < 2 ^ 16)
-        → top ≡ topmost (side-by-side xs) (side-by-side ys) → wires ≡ turned (side-by-side xs) (side-by-side ys)
+        → top ≡ made (side-by-side xs) (side-by-side ys) topmost → wires ≡ made (side-by-side xs) (side-by-side ys) turned
         → at * 8 ≡ dot-at dg6215 r (dg6215 .grid pitch c)
         → now (page .exit) ≡ blacken-all (now (page .entry)) (line-marks dg6215 (xs ++ ys) pitch r c)) ⌝ }
 {

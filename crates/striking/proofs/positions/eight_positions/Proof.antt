@@ -13,7 +13,7 @@ use Rattle.sheet.specs.declared.Grid.{Grid}
 use Rattle.sheet.specs.declared.Model.the-variants.{Dg6215}
 use Rattle.sheet.specs.Edition.{dg6215}
 use Rattle.sheet.specs.Dots.{blacken-all, line-marks}
-use Rattle.striking.specs.Groups.{topmost, turned}
+use Rattle.striking.specs.Turning.{made, topmost, turned}
 use Rattle.sheet.proofs.Editions.{dg6215-row}
 use Rattle.striking.proofs.Grouping.{none-set, part-long}
 use Rattle.striking.proofs.Striking.{on-line, Placed, placed}
@@ -63,8 +63,8 @@ returns-2 c =
     let first = four-at-returns-2 c .four .ensures in
     let second = four2-at-returns-2 c .four2 .ensures in
     c .before .before .nine-wires .ensures _ _ _ _ _ (part-long line at 4 (omega (arith, inside s))) (part-long line (at + 4) 4 (omega (arith, inside s)))
-    (small-part line at 4 small-line) (small-part line (at + 4) 4 small-line) (topmost-at-returns-2 c .topmost .ensures ∙ ap₂ topmost first second)
-    (c .before .before .before .turned .ensures ∙ ap₂ turned first second) (begin (page-byte-at-returns-2 c) .top)
+    (small-part line at 4 small-line) (small-part line (at + 4) 4 small-line) (topmost-at-returns-2 c .topmost .ensures ∙ ap₂ (λ (a b : ℕ). made a b topmost) first second)
+    (c .before .before .before .turned .ensures ∙ ap₂ (λ (a b : ℕ). made a b turned) first second) (begin (page-byte-at-returns-2 c) .top)
     ∙ ap (λ (l : List ℕ). blacken-all (s .args .page .now) (line-marks dg6215 l (s .args .pitch) (s .args .row) at)) (sym (eight-parts line at))
 
 pub eight-positions-spec : {M : Type 1} → statement M

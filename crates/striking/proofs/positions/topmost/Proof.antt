@@ -2,13 +2,13 @@
 use mathlib.Core.Path.{refl}
 use lib.Dec.{lit<}
 use borrow.Author.Needs.{needs}
-use Rattle.striking.specs.Groups.{topmost}
+use Rattle.striking.specs.Turning.{made, topmost}
 use Rattle.striking.proofs.Grouping.{masked-fits}
 use Rattle.striking.proofs.positions.topmost.Statement.{statement}
 use Rattle.striking.proofs.positions.topmost.Tie as tie
 
 returns : tie.Need-returns
-unfolding topmost
+unfolding made topmost
 returns c = refl
 
 pub topmost-spec : {M : Type 1} → statement M

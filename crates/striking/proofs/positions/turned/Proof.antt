@@ -2,14 +2,16 @@
 use mathlib.Core.Path.{ap, _∙_}
 use borrow.Author.Needs.{needs}
 use lib.Dec.{lit<}
-use Rattle.striking.specs.Groups.{turn, turned}
+use Rattle.striking.specs.Groups.{exchanged}
+use Rattle.striking.specs.Turning.{made, turn, turned}
 use Rattle.striking.proofs.Grouping.{masked-fits}
 use Rattle.striking.proofs.positions.turned.Statement.{statement}
 use Rattle.striking.proofs.positions.turned.Tie as tie
 
 returns : tie.Need-returns
-unfolding turned
-returns c = c .turn3 .ensures ∙ ap (turn _ _ _) (c .before .turn2 .ensures ∙ ap (turn _ _ _) (c .before .before .turn .ensures))
+unfolding exchanged made turn turned
+returns c =
+    c .exchanged3 .ensures ∙ ap (exchanged _ _ _) (c .before .exchanged2 .ensures ∙ ap (exchanged _ _ _) (c .before .before .exchanged .ensures))
 
 pub turned-spec : {M : Type 1} → statement M
 turned-spec =
