@@ -8,7 +8,7 @@ use native.Mathlib.Omega.{arith}
 use native.Mathlib.Nat.{add-zero, zero-add, add-mul, mul-assoc, mul-comm, div-eq-of-lt, mod-eq-of-lt, mod-one, pow-suc}
 use native.Mathlib.Decide.{decLt}
 use lib.Dec.{T, lit<, eqb, eqb→eq, leb, leb→le, nleb→lt, ltb, ltb→lt, nltb→le}
-use lib.Pow.{pow-add, pow-mono, pow-pos, shl-shr, shr-shr, split, high, low, mod-pow-add}
+use lib.Pow.{pow-add, pow-mono, pow-pos, shl-shr, shr-shr, high, low, mod-pow-add}
 use lib.Bits.{bitAnd, bitOr, and-mask, and-mod, and-shr, and-zero-r, or-zero-l, or-zero-r}
 use lib.ListN.{length, getD, set, take, drop, length-append, length-take, List·getD-append, List·getD-eq-default, List·getD-map}
 use lib.Seq.{drop-append-seam, drop-cons, drop-drop, getD-drop, take-add}

@@ -8,7 +8,7 @@ ghost use Rattle.sheet.specs.declared.Row.{Row};
 ghost use Rattle.sheet.specs.declared.Pitch.the-variants.{Normal, Compressed};
 ghost use Rattle.sheet.specs.Edition.{lp2};
 ghost use Rattle.sheet.specs.Dots.{blacken-all, dot-at, line-marks};
-ghost use Rattle.striking.specs.Groups.{any-wires, fields, wire-dots, join-byte, join, side-by-side, swapped};
+ghost use Rattle.striking.specs.Groups.{fields, wire-dots, join-byte, join, side-by-side, swapped};
 ghost use Rattle.striking.specs.Room.{Room};
 use sheet::Model;
 use sheet::Pitch;
@@ -16,20 +16,6 @@ use sheet::Row;
 use sheet::counts::page_byte;
 use sheet::sizes::LP2_ROW_BYTES;
 use sheet::sizes::grid;
-
-// The wires that any of the n columns from c on has.
-pub(crate) fn any_wires(line: &[u16], c: usize, n: usize) -> u16
-    requires { ⌜ c + n ≤ length (now line) ⌝ }
-    ensures { λ r. ⌜ r ≡ any-wires (take n (drop c (now (line .entry)))) ⌝ }
-{
-    let mut any: u16 = 0;
-    let mut k = n;
-    while 0 < k {
-        k -= 1;
-        any = line[c + k] | any;
-    }
-    any
-}
 
 // The four columns from c on side by side in one number, the first lowest.
 pub(crate) fn four(line: &[u16], c: usize) -> u64

@@ -1,19 +1,17 @@
 // Striking a line of the 6215 eight positions at a time. The line store has a number for each grid position, so that eight positions are one byte
 // of a row: eight columns are turned into nine bytes, one for each wire. Most positions are empty, since a column takes 5 or 3 and stands at the
 // first, and past the end of the text all are: eighty empty ones are passed over at once.
-ghost use Prim.Native.Nat.{_+_, _*_, _%_, _^_, _≤_, _<_};
+ghost use Prim.Native.Nat.{ℕ, _+_, _*_, _%_, _^_, _≤_, _<_};
 ghost use mathlib.Core.Path.{_≡_};
 ghost use mathlib.Core.List.{List, _++_};
-ghost use Prim.Native.Nat.{ℕ};
 ghost use lib.ListN.{length, take, drop, getD};
 ghost use Rattle.sheet.specs.declared.Pitch.{Pitch};
 ghost use Rattle.sheet.specs.declared.Row.{Row};
 ghost use Rattle.sheet.specs.Edition.{dg6215};
 ghost use Rattle.sheet.specs.Dots.{blacken-all, dot-at, line-marks};
-ghost use Rattle.striking.specs.Groups.{exchanged, side-by-side};
+ghost use Rattle.striking.specs.Groups.{any-wires, exchanged, side-by-side};
 ghost use Rattle.striking.specs.Turning.{made, turned, topmost};
 ghost use Rattle.striking.specs.Room.{Room};
-use crate::groups::any_wires;
 use crate::groups::four;
 use crate::groups::join_byte;
 use sheet::Model;
@@ -86,6 +84,20 @@ fn eight_positions(page: &mut [u8], line: &[u16], row: Row, pitch: Pitch, c: usi
     }
     let at = page_byte(Model::Dg6215, row, grid(Model::Dg6215, pitch, c));
     nine_wires(page, at, topmost(first, second), turned(first, second));
+}
+
+// The wires that any of the n columns from c on has.
+fn any_wires(line: &[u16], c: usize, n: usize) -> u16
+    requires { ⌜ c + n ≤ length (now line) ⌝ }
+    ensures { λ r. ⌜ r ≡ any-wires (take n (drop c (now (line .entry)))) ⌝ }
+{
+    let mut any: u16 = 0;
+    let mut k = n;
+    while 0 < k {
+        k -= 1;
+        any = line[c + k] | any;
+    }
+    any
 }
 
 // Strikes the eighty positions from c on, eight at a time. Eighty empty ones are passed over.

@@ -7,7 +7,7 @@ use lib.Dec.{lit<}
 use lib.Pow.{pow-mono}
 use borrow.Author.Needs.{needs}
 use Rattle.striking.specs.Groups.{swapped}
-use Rattle.striking.proofs.Grouping.{swap-more, swap-last, swap-below}
+use Rattle.striking.proofs.Swapping.{swap-more, swap-last, swap-below}
 use Rattle.striking.proofs.groups.swapped.Statement.{statement}
 use Rattle.striking.proofs.groups.swapped.Tie as tie
 

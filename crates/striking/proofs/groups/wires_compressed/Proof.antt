@@ -48,7 +48,8 @@ returns : tie.Need-returns
 unfolding between
 returns c columns r first eight low-is middle-is high-is place =
     nine-joined (c .before .before)
-    ∙ wires-struck Compressed (held (start-at-wire-compressed9 (c .before .before))) columns _ r first _ eight (lit< tt) (low-is, (middle-is, (high-is, tt))) place
+    ∙ wires-struck Compressed (held (start-at-wire-compressed9 (c .before .before))) columns _ r first _ eight (lit< tt)
+    (low-is, (middle-is, (high-is, tt))) place
 
 pub wires-compressed-spec : {M : Type 1} → statement M
 wires-compressed-spec =

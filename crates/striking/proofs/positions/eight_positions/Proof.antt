@@ -1,13 +1,12 @@
 -- `positions::eight_positions`: positions with no wire leave the page as it is; others stand in one byte of a row, and what strikes their wires is told
 -- that byte.
 mod Places
-use Prim.Native.Nat.{ℕ, _+_, _^_, _≤_, _<_}
-use mathlib.Core.Path.{_≡_, refl, sym, ap, ap₂, _∙_}
+use Prim.Native.Nat.{ℕ, _+_, _≤_, _<_}
+use mathlib.Core.Path.{refl, sym, ap, ap₂, _∙_}
 use mathlib.Core.List.{List}
 use native.Mathlib.Omega.{arith}
 use lib.Bits.{bitOr}
-use lib.ListN.{length, getD}
-use lib.Seq.{length-take-le}
+use lib.ListN.{length}
 use borrow.Author.Needs.{needs}
 use Rattle.sheet.specs.declared.Grid.{Grid}
 use Rattle.sheet.specs.declared.Model.the-variants.{Dg6215}
@@ -63,7 +62,8 @@ returns-2 c =
     let first = four-at-returns-2 c .four .ensures in
     let second = four2-at-returns-2 c .four2 .ensures in
     c .before .before .nine-wires .ensures _ _ _ _ _ (part-long line at 4 (omega (arith, inside s))) (part-long line (at + 4) 4 (omega (arith, inside s)))
-    (small-part line at 4 small-line) (small-part line (at + 4) 4 small-line) (topmost-at-returns-2 c .topmost .ensures ∙ ap₂ (λ (a b : ℕ). made a b topmost) first second)
+    (small-part line at 4 small-line) (small-part line (at + 4) 4 small-line)
+    (topmost-at-returns-2 c .topmost .ensures ∙ ap₂ (λ (a b : ℕ). made a b topmost) first second)
     (c .before .before .before .turned .ensures ∙ ap₂ (λ (a b : ℕ). made a b turned) first second) (begin (page-byte-at-returns-2 c) .top)
     ∙ ap (λ (l : List ℕ). blacken-all (s .args .page .now) (line-marks dg6215 l (s .args .pitch) (s .args .row) at)) (sym (eight-parts line at))
 

@@ -1,7 +1,7 @@
 -- `positions::eighty_positions`: positions with no wire leave the page as it is; else each turn strikes the eight that are next, and those left make of
 -- the page what all eighty make of it at entry.
 mod Places
-use Prim.Native.Nat.{_+_, _-_, _≤_, _<_}
+use Prim.Native.Nat.{_+_, _-_, _≤_}
 use native.Mathlib.Omega.{arith}
 use lib.ListN.{length}
 use borrow.Author.Needs.{needs}
