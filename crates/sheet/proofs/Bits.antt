@@ -16,7 +16,7 @@ unfolding bit
 bit-lt n k = omega arith
 
 -- a bit of an `or` is the `or` of the two bits
-pub bit-or : (a b k : ℕ) → bit (bitOr a b) k ≡ bitOr (bit a k) (bit b k)
+bit-or : (a b k : ℕ) → bit (bitOr a b) k ≡ bitOr (bit a k) (bit b k)
 unfolding bit
 bit-or a b k = ap (λ (x : ℕ). x % 2) (or-shr a b k) ∙ or-mod (a / 2 ^ k) (b / 2 ^ k) 1
 

@@ -1,5 +1,5 @@
--- Eight columns turned into nine wires: a number made of two others by masks, `or` and shifts has bits that are bits of those, and which they are is
--- computed.
+-- Eight columns turned into nine wires: a number made of two others by masks, exclusive `or` and shifts has bits that are bits of those, and which they are
+-- is computed.
 use Prim.Native.Nat.{ℕ, zero, suc, _+_, _-_, _*_, _/_, _%_, _^_, _≤_, _<_}
 use mathlib.Core.Bool.{Bool, true, false, cond, not, _&&_}
 use mathlib.Core.Path.{_≡_, refl, sym, ap, ap₂, _∙_, subst}
@@ -9,13 +9,13 @@ use native.Mathlib.Nat.{add-zero, zero-add, add-mul, mul-assoc, mul-comm, div-eq
 use native.Mathlib.Decide.{decLt}
 use lib.Dec.{T, lit<, eqb, eqb→eq, leb, leb→le, nleb→lt, ltb, ltb→lt, nltb→le}
 use lib.Pow.{pow-add, pow-mono, pow-pos, shl-shr, shr-shr, high, low, mod-pow-add}
-use lib.Bits.{bitAnd, bitOr, and-mask, and-mod, and-shr, and-zero-r, or-zero-l, or-zero-r}
+use lib.Bits.{bitAnd, bitOr, and-mask, and-mod, and-shr, and-zero-r, bitXor, xor-comm, xor-lt, xor-mod, xor-self, xor-shr, xor-zero-l, xor-zero-r}
 use lib.ListN.{length, getD, set, take, drop, length-append, length-take, List·getD-append, List·getD-eq-default, List·getD-map}
 use lib.Seq.{drop-append-seam, drop-cons, drop-drop, getD-drop, take-add}
 use Rattle.sheet.specs.Dots.{bit, blacken-all}
-use Rattle.sheet.proofs.Bits.{bit-lt, bit-or, or-assoc}
+use Rattle.sheet.proofs.Bits.{bit-lt}
 use Rattle.striking.specs.Groups.{any-wires, fields, ones, wire-dots, join-byte, join, side-by-side}
-use Rattle.striking.specs.Turning.{Made, front, back, masked, joined, higher, lower, made, turn, turned, topmost}
+use Rattle.striking.specs.Turning.{Made, front, back, masked, crossed, higher, lower, made, turn, turned, topmost}
 use Rattle.striking.proofs.Grouping.{part-at, or-none, bit-is, low-bit, moved-bit, wire-row, wire-joined}
 
 -- a list where a bit is 1, none where it is 0
@@ -23,12 +23,21 @@ unfoldable where-set : ℕ → List ℕ → List ℕ
 where-set zero l = []
 where-set (suc _) l = l
 
+-- a source added to some, or taken away where it is among them, since twice it is nothing
+unfoldable toggled : ℕ → List ℕ → List ℕ
+toggled i [] = i ∷ []
+toggled i (j ∷ js) = cond (eqb i j) js (j ∷ toggled i js)
+
+unfoldable merged : List ℕ → List ℕ → List ℕ
+merged [] js = js
+merged (i ∷ is) js = toggled i (merged is js)
+
 -- the bits of which bit j of the number is made: bit k of a is k, bit k of b 64 + k
 unfoldable sources : Made → ℕ → List ℕ
 sources front j = cond (ltb j 64) ((0 + j) ∷ []) []
 sources back j = cond (ltb j 64) ((64 + j) ∷ []) []
 sources (masked m x) j = where-set (bit m j) (sources x j)
-sources (joined x y) j = sources x j ++ sources y j
+sources (crossed x y) j = merged (sources x j) (sources y j)
 sources (higher s x) j = cond (leb s j) (sources x (j - s)) []
 sources (lower s x) j = sources x (s + j)
 
@@ -82,7 +91,7 @@ all-true (suc n) p h k l = go (decLt k n) (all-true n p (both (p n) (all-below n
     go (no m) others = subst (λ (i : ℕ). T (p i)) (omega arith) (both (p n) (all-below n p) h .0)
 
 each-lone : T (all-below 9 (λ n. all-below 8 (λ k. lone (16 * k + n) (sources (wire-made n) (7 - k)))))
-unfolding sources where-set bit all-below lone wire-made wires-made topmost turned turn
+unfolding sources merged toggled where-set bit all-below lone wire-made wires-made topmost turned turn
 each-lone = tt
 
 -- the bits of 0
@@ -148,53 +157,104 @@ bit-masked : (n m j : ℕ) → bit (bitAnd n m) j ≡ bitAnd (bit n j) (bit m j)
 unfolding bit
 bit-masked n m j = ap (λ (x : ℕ). x % 2) (and-shr n m j) ∙ and-mod (n / 2 ^ j) (m / 2 ^ j) 1
 
-module _ (a b : ℕ) (a-fits : a < 2 ^ 64) (b-fits : b < 2 ^ 64) (source : ℕ → ℕ)
-    (one : (j : ℕ) → j < 64 → bit a j ≡ source (0 + j)) (two : (j : ℕ) → j < 64 → bit b j ≡ source (64 + j)) where
-  -- the `or` of some sources
-  unfoldable any-of : List ℕ → ℕ
-  any-of [] = 0
-  any-of (i ∷ is) = bitOr (source i) (any-of is)
+-- a bit of two numbers crossed
+bit-crossed : (a b k : ℕ) → bit (bitXor a b) k ≡ bitXor (bit a k) (bit b k)
+unfolding bit
+bit-crossed a b k = ap (λ (x : ℕ). x % 2) (xor-shr a b k) ∙ xor-mod (a / 2 ^ k) (b / 2 ^ k) 1
 
-  any-append : (is js : List ℕ) → bitOr (any-of is) (any-of js) ≡ any-of (is ++ js)
-  unfolding any-of
-  any-append [] js = or-zero-l (any-of js)
-  any-append (i ∷ is) js = or-assoc (source i) (any-of is) (any-of js) ∙ ap (bitOr (source i)) (any-append is js)
+-- three digits may be crossed from either side
+cross-three : (x y z : ℕ) → x < 2 → y < 2 → z < 2 → bitXor (bitXor x y) z ≡ bitXor x (bitXor y z)
+cross-three zero y z h k l = refl
+cross-three (suc zero) zero z h k l = refl
+cross-three (suc zero) (suc zero) zero h k l = refl
+cross-three (suc zero) (suc zero) (suc zero) h k l = refl
+cross-three (suc zero) (suc zero) (suc (suc z)) h k l = absurd (omega arith)
+cross-three (suc zero) (suc (suc y)) z h k l = absurd (omega arith)
+cross-three (suc (suc x)) y z h k l = absurd (omega arith)
+
+module _ (a b : ℕ) (a-fits : a < 2 ^ 64) (b-fits : b < 2 ^ 64) (source : ℕ → ℕ) (digit : (i : ℕ) → source i < 2)
+    (one : (j : ℕ) → j < 64 → bit a j ≡ source (0 + j)) (two : (j : ℕ) → j < 64 → bit b j ≡ source (64 + j)) where
+  -- some sources, crossed
+  unfoldable all-of : List ℕ → ℕ
+  all-of [] = 0
+  all-of (i ∷ is) = bitXor (source i) (all-of is)
+
+  all-digit : (is : List ℕ) → all-of is < 2
+  unfolding all-of
+  all-digit [] = lit< tt
+  all-digit (i ∷ is) = xor-lt 1 (source i) (all-of is) (digit i) (all-digit is)
+
+  -- the same source twice is nothing
+  twice : (i : ℕ) (js : List ℕ) → all-of js ≡ bitXor (source i) (bitXor (source i) (all-of js))
+  twice i js =
+      let s : ℕ = source i in
+      sym (xor-zero-l (all-of js))
+      ∙ ap (λ (n : ℕ). bitXor n (all-of js)) (sym (xor-self s))
+      ∙ cross-three s s (all-of js) (digit i) (digit i) (all-digit js)
+
+  -- of two sources either may be first
+  either : (i j : ℕ) (js : List ℕ) → bitXor (source j) (bitXor (source i) (all-of js)) ≡ bitXor (source i) (bitXor (source j) (all-of js))
+  either i j js =
+      sym (cross-three (source j) (source i) (all-of js) (digit j) (digit i) (all-digit js))
+      ∙ ap (λ (n : ℕ). bitXor n (all-of js)) (xor-comm (source j) (source i))
+      ∙ cross-three (source i) (source j) (all-of js) (digit i) (digit j) (all-digit js)
+
+  all-toggled : (i : ℕ) (js : List ℕ) → all-of (toggled i js) ≡ bitXor (source i) (all-of js)
+  unfolding toggled all-of
+  all-toggled i [] = refl
+  all-toggled i (j ∷ js) = go (eqb i j) refl (all-toggled i js)
+    where
+      go : (t : Bool) → eqb i j ≡ t → all-of (toggled i js) ≡ bitXor (source i) (all-of js)
+          → all-of (cond t js (j ∷ toggled i js)) ≡ bitXor (source i) (bitXor (source j) (all-of js))
+      go true e others =
+          let same : i ≡ j = eqb→eq i j (subst T (sym e) tt) in
+          twice i js ∙ ap (λ (k : ℕ). bitXor (source i) (bitXor (source k) (all-of js))) same
+      go false e others = ap (bitXor (source j)) others ∙ either i j js
+
+  all-merged : (is js : List ℕ) → bitXor (all-of is) (all-of js) ≡ all-of (merged is js)
+  unfolding merged all-of
+  all-merged [] js = xor-zero-l (all-of js)
+  all-merged (i ∷ is) js =
+      cross-three (source i) (all-of is) (all-of js) (digit i) (all-digit is) (all-digit js)
+      ∙ ap (bitXor (source i)) (all-merged is js)
+      ∙ sym (all-toggled i (merged is js))
 
   -- a bit that has a source or is 0, as a condition tells
-  chosen : (t : Bool) (v : ℕ) (l : List ℕ) → (T t → v ≡ any-of l) → (T (not t) → v ≡ 0) → v ≡ any-of (cond t l [])
-  unfolding any-of
+  chosen : (t : Bool) (v : ℕ) (l : List ℕ) → (T t → v ≡ all-of l) → (T (not t) → v ≡ 0) → v ≡ all-of (cond t l [])
+  unfolding all-of
   chosen true v l some none = some tt
   chosen false v l some none = none tt
 
   -- bit j of one of the two numbers, whose bit k is source n + k
-  whole : (m n j : ℕ) → m < 2 ^ 64 → ((k : ℕ) → k < 64 → bit m k ≡ source (n + k)) → bit m j ≡ any-of (cond (ltb j 64) ((n + j) ∷ []) [])
-  unfolding any-of
+  whole : (m n j : ℕ) → m < 2 ^ 64 → ((k : ℕ) → k < 64 → bit m k ≡ source (n + k)) → bit m j ≡ all-of (cond (ltb j 64) ((n + j) ∷ []) [])
+  unfolding all-of
   whole m n j fits is =
-      chosen (ltb j 64) (bit m j) ((n + j) ∷ []) (λ h. is j (ltb→lt j 64 h) ∙ sym (or-zero-r (source (n + j)))) (λ h. above 64 m j fits (nltb→le j 64 h))
+      chosen (ltb j 64) (bit m j) ((n + j) ∷ []) (λ h. is j (ltb→lt j 64 h) ∙ sym (xor-zero-r (source (n + j)))) (λ h. above 64 m j fits (nltb→le j 64 h))
 
   -- a bit under a bit of a mask
-  under-mask : (v m : ℕ) (l : List ℕ) → v < 2 → m < 2 → v ≡ any-of l → bitAnd v m ≡ any-of (where-set m l)
-  unfolding any-of where-set
+  under-mask : (v m : ℕ) (l : List ℕ) → v < 2 → m < 2 → v ≡ all-of l → bitAnd v m ≡ all-of (where-set m l)
+  unfolding all-of where-set
   under-mask v zero l h k e = and-zero-r v
   under-mask v (suc zero) l h k e = and-mask v 1 ∙ mod-eq-of-lt h ∙ e
   under-mask v (suc (suc m)) l h k e = absurd (omega arith)
 
-  -- each bit of a made number is the `or` of its sources
-  made-bit : (x : Made) (j : ℕ) → bit (made a b x) j ≡ any-of (sources x j)
+  -- each bit of a made number is its sources, crossed
+  made-bit : (x : Made) (j : ℕ) → bit (made a b x) j ≡ all-of (sources x j)
   unfolding made sources
   made-bit front j = whole a 0 j a-fits one
   made-bit back j = whole b 64 j b-fits two
   made-bit (masked m x) j = bit-masked (made a b x) m j ∙ under-mask (bit (made a b x) j) (bit m j) (sources x j) (bit-lt _ j) (bit-lt m j) (made-bit x j)
-  made-bit (joined x y) j = bit-or (made a b x) (made a b y) j ∙ ap₂ bitOr (made-bit x j) (made-bit y j) ∙ any-append (sources x j) (sources y j)
+  made-bit (crossed x y) j =
+      bit-crossed (made a b x) (made a b y) j ∙ ap₂ bitXor (made-bit x j) (made-bit y j) ∙ all-merged (sources x j) (sources y j)
   made-bit (higher s x) j =
       chosen (leb s j) (bit (made a b x * 2 ^ s) j) (sources x (j - s)) (λ h. bit-higher (made a b x) s j (leb→le s j h) ∙ made-bit x (j - s))
       (λ h. bit-under (made a b x) s j (nleb→lt s j h))
   made-bit (lower s x) j = moved-bit (made a b x) s j ∙ made-bit x (s + j)
 
-  lone-source : (i : ℕ) (l : List ℕ) → T (lone i l) → any-of l ≡ source i
-  unfolding lone any-of
+  lone-source : (i : ℕ) (l : List ℕ) → T (lone i l) → all-of l ≡ source i
+  unfolding lone all-of
   lone-source i [] h = absurd h
-  lone-source i (j ∷ []) h = or-zero-r (source j) ∙ ap source (eqb→eq j i h)
+  lone-source i (j ∷ []) h = xor-zero-r (source j) ∙ ap source (eqb→eq j i h)
   lone-source i (j ∷ k ∷ js) h = absurd h
 
   -- bit 7 - k of the number for wire n is bit n of column k, the sources being the columns' bits, sixteen each
@@ -300,7 +360,7 @@ module _ (xs ys : List ℕ) (x-four : length xs ≡ 4) (y-four : length ys ≡ 4
       let eight : length (xs ++ ys) ≡ 8 = omega (arith, length-append xs ys) in
       ap (join before i 1) (so-made a b n h)
       ∙ byte-strikes before (xs ++ ys) i n (made a b (wire-made n)) eight
-      (λ k l. wire-bit a b a-fits b-fits source-of one-of two-of n k h l
+      (λ k l. wire-bit a b a-fits b-fits source-of (λ i. bit-lt _ _) one-of two-of n k h l
       ∙ ap₂ (λ (c j : ℕ). bit (getD (xs ++ ys) c 0) j) (omega arith) (omega arith))
 
 -- the part of a line of small numbers that begins at column c

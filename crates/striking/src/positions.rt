@@ -21,12 +21,13 @@ use sheet::counts::page_byte;
 use sheet::sizes::DG6215_ROW_BYTES;
 use sheet::sizes::grid;
 
-// Exchanges bits of a number: those that `moved` names and those `up` times as high. Those that `kept` names stay.
-fn exchanged(f: u64, kept: u64, moved: u64, up: u64) -> u64
+// Exchanges bits of a number: those that `moved` names and those `up` times as high.
+fn exchanged(f: u64, moved: u64, up: u64) -> u64
     requires { ⌜ (1 ≤ up) × (moved * up < 2 ^ 64) ⌝ }
-    ensures { λ r. ⌜ r ≡ exchanged kept moved up f ⌝ }
+    ensures { λ r. ⌜ r ≡ exchanged moved up f ⌝ }
 {
-    (f & kept) | ((f & moved) * up) | ((f / up) & moved)
+    let differing = (f ^ (f / up)) & moved;
+    f ^ differing ^ (differing * up)
 }
 
 // The eight lowest wires of eight columns, four of which stand side by side in each number: a byte for each wire, the first column's bit highest.
@@ -34,10 +35,10 @@ fn exchanged(f: u64, kept: u64, moved: u64, up: u64) -> u64
 fn turned(first: u64, second: u64) -> u64
     ensures { λ r. ⌜ r ≡ made first second turned ⌝ }
 {
-    let eight = (first & 0x00FF00FF00FF00FF) | ((second & 0x00FF00FF00FF00FF) * 0x100);
-    let once = exchanged(eight, 0x0FF00FF00FF00FF0, 0x000F000F000F000F, 0x1000);
-    let twice = exchanged(once, 0x33333333CCCCCCCC, 0x0000000033333333, 0x400000000);
-    exchanged(twice, 0x5555AAAA5555AAAA, 0x0000555500005555, 0x20000)
+    let eight = (first & 0x00FF00FF00FF00FF) ^ ((second & 0x00FF00FF00FF00FF) * 0x100);
+    let once = exchanged(eight, 0x000F000F000F000F, 0x1000);
+    let twice = exchanged(once, 0x0000000033333333, 0x400000000);
+    exchanged(twice, 0x0000555500005555, 0x20000)
 }
 
 // Wire 1 of eight columns, four of which stand side by side in each number: in the lowest byte, the first column's bit highest.
@@ -45,9 +46,9 @@ fn topmost(first: u64, second: u64) -> u64
     ensures { λ r. ⌜ r ≡ made first second topmost ⌝ }
 {
     let apart = (((first / 0x100) & 0x0001000100010001) * 0x80)
-        | (((second / 0x100) & 0x0001000100010001) * 0x8);
-    let near = apart | (apart / 0x20000);
-    near | (near / 0x400000000)
+        ^ (((second / 0x100) & 0x0001000100010001) * 0x8);
+    let near = apart ^ (apart / 0x20000);
+    near ^ (near / 0x400000000)
 }
 
 // Strikes the nine wires of eight columns, each a row below the one before: wire 1 is in `top`, the others in `wires`.
@@ -70,8 +71,7 @@ fn nine_wires(page: &mut [u8], at: usize, top: u64, wires: u64)
     join_byte(page, at + 8 * DG6215_ROW_BYTES, wires / 0x100000000000000);
 }
 
-// Strikes the eight positions from c on, with wire 1 in `row`. As c is a multiple of eight, they are one byte of the row. Eight empty ones are
-// passed over.
+// Strikes the eight positions from c on, with wire 1 in `row`. As c is a multiple of eight, they are one byte of the row.
 fn eight_positions(page: &mut [u8], line: &[u16], row: Row, pitch: Pitch, c: usize)
     requires { ⌜ Room dg6215 (now page) (now line) row ⌝ }
     requires { ⌜ (c % 8 ≡ 0) × (c < dg6215 .width pitch) ⌝ }
@@ -79,9 +79,6 @@ fn eight_positions(page: &mut [u8], line: &[u16], row: Row, pitch: Pitch, c: usi
 {
     let first = four(line, c);
     let second = four(line, c + 4);
-    if first | second == 0 {
-        return;
-    }
     let at = page_byte(Model::Dg6215, row, grid(Model::Dg6215, pitch, c));
     nine_wires(page, at, topmost(first, second), turned(first, second));
 }

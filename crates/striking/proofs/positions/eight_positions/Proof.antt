@@ -1,11 +1,9 @@
--- `positions::eight_positions`: positions with no wire leave the page as it is; others stand in one byte of a row, and what strikes their wires is told
--- that byte.
+-- `positions::eight_positions`: the positions stand in one byte of a row, and what strikes their wires is told that byte.
 mod Places
 use Prim.Native.Nat.{ℕ, _+_, _≤_, _<_}
 use mathlib.Core.Path.{refl, sym, ap, ap₂, _∙_}
 use mathlib.Core.List.{List}
 use native.Mathlib.Omega.{arith}
-use lib.Bits.{bitOr}
 use lib.ListN.{length}
 use borrow.Author.Needs.{needs}
 use Rattle.sheet.specs.declared.Grid.{Grid}
@@ -14,9 +12,9 @@ use Rattle.sheet.specs.Edition.{dg6215}
 use Rattle.sheet.specs.Dots.{blacken-all, line-marks}
 use Rattle.striking.specs.Turning.{made, topmost, turned}
 use Rattle.sheet.proofs.Editions.{dg6215-row}
-use Rattle.striking.proofs.Grouping.{none-set, part-long}
+use Rattle.striking.proofs.Grouping.{part-long}
 use Rattle.striking.proofs.Striking.{on-line, Placed, placed}
-use Rattle.striking.proofs.Turning.{Small, small-part, eight-parts, eight-none}
+use Rattle.striking.proofs.Turning.{Small, small-part, eight-parts}
 use Rattle.striking.proofs.positions.eight_positions.Statement.{statement}
 use Rattle.striking.proofs.positions.eight_positions.Tie as tie
 use Places.*
@@ -37,12 +35,6 @@ below : (s : tie.Start) → s .args .c < 6800
 unfolding dg6215
 below s = s .pre .1 .1
 
-returns : tie.Need-returns
-returns c =
-    let a = start-at-returns c .args in
-    none-set dg6215 _ _ _ _ _
-    (eight-none (a .line .now) (a .c) (sym (ap₂ bitOr (c .before .before .four .ensures) (c .before .four2 .ensures)) ∙ c .if1 .taken))
-
 -- the place is on the row, and the row's bytes are on the page
 page-byte-requires : tie.Need-page-byte-requires
 unfolding dg6215
@@ -53,23 +45,23 @@ page-byte-requires c κs =
 nine-wires-requires : tie.Need-nine-wires-requires
 nine-wires-requires c κs = omega (arith, begin (c .before .before .before) .fits, dg6215-row)
 
-returns-2 : tie.Need-returns-2
-returns-2 c =
-    let s = start-at-returns-2 c in
+returns : tie.Need-returns
+returns c =
+    let s = start-at-returns c in
     let line = s .args .line .now in
     let at = s .args .c in
-    let small-line = small (shared-slice-known-at-returns-2 c) in
-    let first = four-at-returns-2 c .four .ensures in
-    let second = four2-at-returns-2 c .four2 .ensures in
+    let small-line = small (shared-slice-known-at-returns c) in
+    let first = four-at-returns c .four .ensures in
+    let second = four2-at-returns c .four2 .ensures in
     c .before .before .nine-wires .ensures _ _ _ _ _ (part-long line at 4 (omega (arith, inside s))) (part-long line (at + 4) 4 (omega (arith, inside s)))
     (small-part line at 4 small-line) (small-part line (at + 4) 4 small-line)
-    (topmost-at-returns-2 c .topmost .ensures ∙ ap₂ (λ (a b : ℕ). made a b topmost) first second)
-    (c .before .before .before .turned .ensures ∙ ap₂ (λ (a b : ℕ). made a b turned) first second) (begin (page-byte-at-returns-2 c) .top)
+    (topmost-at-returns c .topmost .ensures ∙ ap₂ (λ (a b : ℕ). made a b topmost) first second)
+    (c .before .before .before .turned .ensures ∙ ap₂ (λ (a b : ℕ). made a b turned) first second) (begin (page-byte-at-returns c) .top)
     ∙ ap (λ (l : List ℕ). blacken-all (s .args .page .now) (line-marks dg6215 l (s .args .pitch) (s .args .row) at)) (sym (eight-parts line at))
 
 pub eight-positions-spec : {M : Type 1} → statement M
 eight-positions-spec =
     tie.close
-    (tie.spec (λ c κs. omega (arith, inside (c .before .before))) (λ c. search needs) (λ c κs. omega (arith, inside (c .before .before .before))) returns
+    (tie.spec (λ c κs. omega (arith, inside (c .before .before))) (λ c. search needs) (λ c κs. omega (arith, inside (c .before .before .before)))
     (λ c κs. omega (arith, below (start-at-grid-requires c))) page-byte-requires (λ c κs. search needs) (λ c κs. search needs) nine-wires-requires
-    (λ c. search needs) returns-2)
+    (λ c. search needs) returns)

@@ -11,7 +11,7 @@ use Rattle.striking.proofs.positions.turned.Tie as tie
 returns : tie.Need-returns
 unfolding exchanged made turn turned
 returns c =
-    c .exchanged3 .ensures ∙ ap (exchanged _ _ _) (c .before .exchanged2 .ensures ∙ ap (exchanged _ _ _) (c .before .before .exchanged .ensures))
+    c .exchanged3 .ensures ∙ ap (exchanged _ _) (c .before .exchanged2 .ensures ∙ ap (exchanged _ _) (c .before .before .exchanged .ensures))
 
 pub turned-spec : {M : Type 1} → statement M
 turned-spec =
