@@ -202,11 +202,7 @@ or-none a b e =
 no-dots : (e : Edition) (column : ℕ) (r : Row) (g : Grid) → column ≡ 0 → [] ≡ column-marks e column r g
 no-dots e column r g none = sym (ap (λ (x : ℕ). column-marks e x r g) none ∙ no-wires e r g)
 
--- so it may be passed over, and so may some columns
-pub not-set : (e : Edition) (column : ℕ) (page : List ℕ) (r : Row) (g : Grid) → column ≡ 0 → page ≡ blacken-all page (column-marks e column r g)
-unfolding blacken-all
-not-set e column page r g none = ap (blacken-all page) (no-dots e column r g none)
-
+-- so columns of which none has one may be passed over
 pub none-set : (e : Edition) (columns page : List ℕ) (pitch : Pitch) (r : Row) (c : ℕ) → any-wires columns ≡ 0
     → page ≡ blacken-all page (line-marks e columns pitch r c)
 unfolding any-wires line-marks blacken-all

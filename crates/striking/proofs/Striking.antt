@@ -185,8 +185,8 @@ module _ (w : Model) (line : List ℕ) (pitch : Pitch) (r : Row) (entry : List �
       }
 
   -- at W the line is struck
-  pub all-walked : (page : List ℕ) (c : ℕ) → length line ≡ described w .columns → Walked w line pitch r entry c page → described w .width pitch ≤ c
-      → page ≡ struck (described w) entry line r pitch
+  pub all-walked : (page : List ℕ) (c : ℕ) → length line ≡ described w .columns → Walked w line pitch r entry c page
+      → described w .width pitch ≤ c → page ≡ struck (described w) entry line r pitch
   unfolding struck marks
   all-walked page c full walked end =
       let width : ℕ = described w .width pitch in

@@ -9,7 +9,7 @@ use native.Mathlib.Nat.{add-zero, zero-add, add-mul, mul-assoc, mul-comm, div-eq
 use native.Mathlib.Decide.{decLt}
 use lib.Dec.{T, lit<, eqb, eqb→eq, leb, leb→le, nleb→lt, ltb, ltb→lt, nltb→le}
 use lib.Pow.{pow-add, pow-mono, pow-pos, shl-shr, shr-shr, high, low, mod-pow-add}
-use lib.Bits.{bitAnd, bitOr, and-mask, and-mod, and-shr, and-zero-r, bitXor, xor-comm, xor-lt, xor-mod, xor-self, xor-shr, xor-zero-l, xor-zero-r}
+use lib.Bits.{bitAnd, bitOr, and-mask, and-mod, and-shr, and-zero-r, bitXor, xor-add-and, xor-comm, xor-lt, xor-mod, xor-self, xor-shr, xor-zero-l, xor-zero-r}
 use lib.ListN.{length, getD, set, take, drop, length-append, length-take, List·getD-append, List·getD-eq-default, List·getD-map}
 use lib.Seq.{drop-append-seam, drop-cons, drop-drop, getD-drop, take-add}
 use Rattle.sheet.specs.Dots.{bit, blacken-all}
@@ -147,7 +147,8 @@ bit-higher : (n s j : ℕ) → s ≤ j → bit (n * 2 ^ s) j ≡ bit n (j - s)
 unfolding bit
 bit-higher n s j h =
     let past : j ≡ s + (j - s) = omega arith in
-    ap (λ (k : ℕ). n * 2 ^ s / 2 ^ k % 2) past ∙ ap (λ (m : ℕ). m % 2) (sym (shr-shr (n * 2 ^ s) s (j - s)) ∙ ap (λ (m : ℕ). m / 2 ^ (j - s)) (shl-shr n s))
+    ap (λ (k : ℕ). n * 2 ^ s / 2 ^ k % 2) past
+    ∙ ap (λ (m : ℕ). m % 2) (sym (shr-shr (n * 2 ^ s) s (j - s)) ∙ ap (λ (m : ℕ). m / 2 ^ (j - s)) (shl-shr n s))
 
 bit-under : (n s j : ℕ) → j < s → bit (n * 2 ^ s) j ≡ 0
 bit-under n s j h = ap (λ (m : ℕ). bit m j) (omega arith) ∙ bit-below n 0 s j (pow-pos s) h ∙ no-bit j
@@ -162,15 +163,20 @@ bit-crossed : (a b k : ℕ) → bit (bitXor a b) k ≡ bitXor (bit a k) (bit b k
 unfolding bit
 bit-crossed a b k = ap (λ (x : ℕ). x % 2) (xor-shr a b k) ∙ xor-mod (a / 2 ^ k) (b / 2 ^ k) 1
 
--- three digits may be crossed from either side
+-- two digits crossed are their sum without what it carries, so three may be crossed from either side
+cross-two : (x y : ℕ) → x < 2 → y < 2 → bitXor x y ≡ (x + y) % 2
+cross-two x y h k = omega (arith, xor-add-and x y, xor-lt 1 x y h k)
+
+sum-three : (x y z : ℕ) → ((x + y) % 2 + z) % 2 ≡ (x + (y + z) % 2) % 2
+sum-three x y z = omega arith
+
 cross-three : (x y z : ℕ) → x < 2 → y < 2 → z < 2 → bitXor (bitXor x y) z ≡ bitXor x (bitXor y z)
-cross-three zero y z h k l = refl
-cross-three (suc zero) zero z h k l = refl
-cross-three (suc zero) (suc zero) zero h k l = refl
-cross-three (suc zero) (suc zero) (suc zero) h k l = refl
-cross-three (suc zero) (suc zero) (suc (suc z)) h k l = absurd (omega arith)
-cross-three (suc zero) (suc (suc y)) z h k l = absurd (omega arith)
-cross-three (suc (suc x)) y z h k l = absurd (omega arith)
+cross-three x y z h k l =
+    cross-two (bitXor x y) z (xor-lt 1 x y h k) l
+    ∙ ap (λ (v : ℕ). (v + z) % 2) (cross-two x y h k)
+    ∙ sum-three x y z
+    ∙ ap (λ (v : ℕ). (x + v) % 2) (sym (cross-two y z k l))
+    ∙ sym (cross-two x (bitXor y z) h (xor-lt 1 y z k l))
 
 module _ (a b : ℕ) (a-fits : a < 2 ^ 64) (b-fits : b < 2 ^ 64) (source : ℕ → ℕ) (digit : (i : ℕ) → source i < 2)
     (one : (j : ℕ) → j < 64 → bit a j ≡ source (0 + j)) (two : (j : ℕ) → j < 64 → bit b j ≡ source (64 + j)) where
@@ -229,7 +235,8 @@ module _ (a b : ℕ) (a-fits : a < 2 ^ 64) (b-fits : b < 2 ^ 64) (source : ℕ �
   whole : (m n j : ℕ) → m < 2 ^ 64 → ((k : ℕ) → k < 64 → bit m k ≡ source (n + k)) → bit m j ≡ all-of (cond (ltb j 64) ((n + j) ∷ []) [])
   unfolding all-of
   whole m n j fits is =
-      chosen (ltb j 64) (bit m j) ((n + j) ∷ []) (λ h. is j (ltb→lt j 64 h) ∙ sym (xor-zero-r (source (n + j)))) (λ h. above 64 m j fits (nltb→le j 64 h))
+      chosen (ltb j 64) (bit m j) ((n + j) ∷ []) (λ h. is j (ltb→lt j 64 h) ∙ sym (xor-zero-r (source (n + j))))
+      (λ h. above 64 m j fits (nltb→le j 64 h))
 
   -- a bit under a bit of a mask
   under-mask : (v m : ℕ) (l : List ℕ) → v < 2 → m < 2 → v ≡ all-of l → bitAnd v m ≡ all-of (where-set m l)
@@ -270,7 +277,8 @@ unfolding side-by-side
 side-fits [] small = lit< tt
 side-fits (x ∷ columns) small =
     let more : 16 * length (x ∷ columns) ≡ 16 * length columns + 16 = omega arith in
-    let power : 2 ^ (16 * length (x ∷ columns)) ≡ 2 ^ (16 * length columns) * 65536 = ap (λ (n : ℕ). 2 ^ n) more ∙ pow-add 2 (16 * length columns) 16 in
+    let power : 2 ^ (16 * length (x ∷ columns)) ≡ 2 ^ (16 * length columns) * 65536 =
+    ap (λ (n : ℕ). 2 ^ n) more ∙ pow-add 2 (16 * length columns) 16 in
     omega (arith, power, small 0, side-fits columns (λ k. small (suc k)))
 
 -- the four columns of a line from column c on, and side by side
@@ -308,7 +316,8 @@ bits-fields w n (x ∷ columns) f is =
     let top : w / 2 ^ m % 2 ≡ b = bit-is w m ∙ ap (bit w) last ∙ is 0 (omega arith) ∙ sym (bit-is x n) in
     let more : w % 2 ^ suc m ≡ w / 2 ^ m % 2 * 2 ^ m + w % 2 ^ m = ap (λ (k : ℕ). w % 2 ^ k) (omega arith) ∙ mod-pow-add w 1 m in
     let spread : (f * 2 + b) * 2 ^ m ≡ f * 2 ^ suc m + b * 2 ^ m =
-    add-mul (f * 2) b (2 ^ m) ∙ ap (λ (v : ℕ). v + b * 2 ^ m) (mul-assoc f 2 (2 ^ m) ∙ ap (λ (v : ℕ). f * v) (mul-comm 2 (2 ^ m) ∙ sym (pow-suc 2 m))) in
+    add-mul (f * 2) b (2 ^ m)
+    ∙ ap (λ (v : ℕ). v + b * 2 ^ m) (mul-assoc f 2 (2 ^ m) ∙ ap (λ (v : ℕ). f * v) (mul-comm 2 (2 ^ m) ∙ sym (pow-suc 2 m))) in
     bits-fields w n columns (f * 2 + b) (λ k h. ap (bit w) (omega arith) ∙ is (suc k) (omega arith))
     ∙ omega (arith, more, spread, ap (λ (v : ℕ). v * 2 ^ m) top)
 

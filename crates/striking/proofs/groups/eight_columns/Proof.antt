@@ -29,7 +29,8 @@ inside s = on-line Lp2 (s .args .line .now) (s .args .pitch) (s .args .c) (s .pr
 abbrev struck-in : tie.Start → Pitch → List ℕ
 struck-in s pitch = blacken-all (s .args .page .now) (line-marks lp2 (take 8 (drop (s .args .c) (s .args .line .now))) pitch (s .args .row) (s .args .c))
 
-in-pitch : (s : tie.Start) {page : List ℕ} {pitch : Pitch} → s .args .pitch ≡ pitch → page ≡ struck-in s pitch → page ≡ struck-in s (s .args .pitch)
+in-pitch : (s : tie.Start) {page : List ℕ} {pitch : Pitch} → s .args .pitch ≡ pitch → page ≡ struck-in s pitch
+    → page ≡ struck-in s (s .args .pitch)
 in-pitch s told e = e ∙ ap (struck-in s) (sym told)
 
 -- the columns begin at the byte that the code names, in the pitch that it has found
