@@ -9,8 +9,8 @@ ghost use Rattle.sheet.specs.declared.Pitch.{Pitch};
 ghost use Rattle.sheet.specs.declared.Row.{Row};
 ghost use Rattle.sheet.specs.Edition.{dg6215};
 ghost use Rattle.sheet.specs.Dots.{blacken-all, dot-at, line-marks};
-ghost use Rattle.striking.specs.Groups.{any-wires, exchanged, side-by-side};
-ghost use Rattle.striking.specs.Turning.{made, turned, topmost};
+ghost use Rattle.striking.specs.Groups.{any-wires, side-by-side};
+ghost use Rattle.striking.specs.Turning.{front, made, turn, turned, topmost};
 ghost use Rattle.striking.specs.Room.{Room};
 use crate::groups::four;
 use crate::groups::join_byte;
@@ -24,7 +24,7 @@ use sheet::sizes::grid;
 // Exchanges bits of a number: those that `moved` names and those `up` times as high.
 fn exchanged(f: u64, moved: u64, up: u64) -> u64
     requires { ⌜ (1 ≤ up) × (moved * up < 2 ^ 64) ⌝ }
-    ensures { λ r. ⌜ r ≡ exchanged moved up f ⌝ }
+    ensures { λ r. ⌜ ((s : ℕ) → up ≡ 2 ^ s → r ≡ made f 0 (turn moved s front)) ⌝ }
 {
     let differing = (f ^ (f / up)) & moved;
     f ^ differing ^ (differing * up)

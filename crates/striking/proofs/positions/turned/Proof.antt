@@ -1,17 +1,19 @@
 -- `positions::turned`: the steps are the definition's own.
-use mathlib.Core.Path.{ap, _∙_}
+use Prim.Native.Nat.{ℕ}
+use mathlib.Core.Path.{refl, ap, _∙_}
 use borrow.Author.Needs.{needs}
 use lib.Dec.{lit<}
-use Rattle.striking.specs.Groups.{exchanged}
-use Rattle.striking.specs.Turning.{made, turn, turned}
+use Rattle.striking.specs.Turning.{front, made, turn, turned}
 use Rattle.striking.proofs.Grouping.{masked-fits}
 use Rattle.striking.proofs.positions.turned.Statement.{statement}
 use Rattle.striking.proofs.positions.turned.Tie as tie
 
 returns : tie.Need-returns
-unfolding exchanged made turn turned
+unfolding made turn turned
 returns c =
-    c .exchanged3 .ensures ∙ ap (exchanged _ _) (c .before .exchanged2 .ensures ∙ ap (exchanged _ _) (c .before .before .exchanged .ensures))
+    c .exchanged3 .ensures 17 refl
+    ∙ ap (λ (n : ℕ). made n 0 (turn _ 17 front))
+    (c .before .exchanged2 .ensures 34 refl ∙ ap (λ (n : ℕ). made n 0 (turn _ 34 front)) (c .before .before .exchanged .ensures 12 refl))
 
 pub turned-spec : {M : Type 1} → statement M
 turned-spec =
