@@ -1,9 +1,8 @@
 -- What each way through a call comes to.
-use Prim.Native.Nat.{ℕ, _≤_}
-use mathlib.Core.Bool.{Bool, true, false, true≢false}
+use Prim.Native.Nat.{ℕ}
+use mathlib.Core.Bool.{true, false}
 use mathlib.Core.List.{List, [], _∷_}
 use mathlib.Core.Path.{_≡_, ap, sym, _∙_}
-use native.Mathlib.Omega.{arith}
 use borrow.Author.Tests.{eq-eqb, ne-eqb}
 use lib.Dec.{eqb}
 use lib.ListN.{length}
@@ -16,34 +15,16 @@ use Rattle.printer.specs.declared.Printer.{Printer}
 use Rattle.printer.specs.Closing.{closing}
 use Rattle.printer.specs.Given.{machine}
 use Rattle.printer.specs.Machine.{Machine, edition-of, new-printer, shut}
-use Rattle.printer.specs.Sound.{sound}
-use Rattle.protocol.specs.declared.Answer.{Answer}
-use Rattle.protocol.specs.declared.Answer.the-variants.{Done, Finished, Noted, JobFull, Unsound, Misfit, WrongLines, WrongSpacing}
-use Rattle.protocol.specs.declared.Lent.the-variants.{Page, LineStore, Staging, DownloadStore, Font}
 use Rattle.printer.specs.Numbers.{close-report, value}
-use Rattle.protocol.specs.Answers.{lent-number, refusal, report}
-use Rattle.protocol.specs.declared.Fit.{Fit}
-use Rattle.protocol.specs.declared.Fit.the-variants.{Right, Wrong}
-use Rattle.protocol.specs.declared.Lent as lent
-use Rattle.protocol.specs.Calls.{Feeding, Opening, feed-fitted, feeding, fit, opening, page-due}
-use Rattle.protocol.proofs.Answering.{opening-refused, taking-heeds}
-use Rattle.protocol.proofs.Ways.{feed-misfit, feed-unsound, open-admitted}
-use Rattle.clocktoad.specs.Calls.{Called, Closed, called, close-call, closing-report, closing-words, feed-call, feeding-report, feeding-words}
-use Rattle.clocktoad.specs.Calls.{due-call, model-call, of-model, open-call, opening-words, refused-or, report-size, shut-words}
+use Rattle.protocol.specs.declared.Answer.{Answer}
+use Rattle.protocol.specs.Answers.{refusal, report}
+use Rattle.protocol.specs.Calls.{Opening, opening, page-due}
+use Rattle.protocol.proofs.Answering.{opening-refused}
+use Rattle.protocol.proofs.Ways.{open-admitted}
+use Rattle.feeding.specs.Feeding.{Called, called, refused-or, report-size}
+use Rattle.feeding.proofs.Feeding.{Lent, left-alone}
+use Rattle.clocktoad.specs.Calls.{Closed, close-call, closing-report, closing-words, due-call, model-call, of-model, open-call, opening-words, shut-words}
 use Rattle.words.specs.Words.{is-model, is-state, model-of, state-of, state-size, state-words}
-
--- the memory that opening and feeding are lent, with the state
-pub record Lent : Type 0 where
-  pub state : List ℕ
-  pub page : List ℕ
-  pub line : List ℕ
-  pub staging : List ℕ
-  pub store : List ℕ
-  pub font : List ℕ
-
--- a call that leaves all that it was lent as it is
-abbrev left-alone : Lent → ℕ → List ℕ → Called
-left-alone x number told = called number (x .state) (x .page) (x .line) (x .staging) (x .store) told
 
 -- words that take the place of others are a state where those are as many as one has
 abbrev pub InPlace : List ℕ → List ℕ → Type 0
@@ -113,87 +94,6 @@ module _ (model lines spacing : ℕ) (x : Lent) where
       → (g ≡ at-open) × InPlace (x .state) (g .state)
   unfolding open-call
   open-known g k m o = (o .0 ∙ rw (k, m), o .1)
-
--- a refusal has a number of its own
-pub refusal-numbers : (a : Answer) → refusal a ≡ true → 10 ≤ report a .number
-unfolding refusal report lent-number
-refusal-numbers Done q = absurd (true≢false (sym q))
-refusal-numbers Finished q = absurd (true≢false (sym q))
-refusal-numbers (Noted f place) q = absurd (true≢false (sym q))
-refusal-numbers JobFull q = absurd (true≢false (sym q))
-refusal-numbers Unsound q = omega arith
-refusal-numbers (Misfit Page) q = omega arith
-refusal-numbers (Misfit LineStore) q = omega arith
-refusal-numbers (Misfit Staging) q = omega arith
-refusal-numbers (Misfit DownloadStore) q = omega arith
-refusal-numbers (Misfit Font) q = omega arith
-refusal-numbers WrongLines q = omega arith
-refusal-numbers WrongSpacing q = omega arith
-
--- A report of the wrong length comes after all that feeding refuses besides.
-module _ (e : Edition) (font piece : List ℕ) (m : Machine) where
-  abbrev unheard : Feeding → ℕ
-  unheard f = refused-or 22 (f .answer)
-
-  pub unsound-first : sound e (m .printer) ≡ false → 10 ≡ unheard (feeding e font piece m)
-  unfolding refused-or refusal report
-  unsound-first s = ap unheard (feed-unsound e font piece m s)
-
-  module _ (s : sound e (m .printer) ≡ true) {tested : Fit} (is : tested ≡ fit e (m .printer .form) font m) where
-    pub misfit-first : {lent : lent.Lent} {number : ℕ} → tested ≡ Wrong lent → number ≡ report (Misfit lent) .number
-        → number ≡ unheard (feeding e font piece m)
-    unfolding refused-or refusal
-    misfit-first w n = n ∙ ap unheard (feed-misfit e font piece m s is w)
-
-    pub report-last : tested ≡ Right → 22 ≡ unheard (feeding e font piece m)
-    unfolding refused-or feeding feed-fitted
-    report-last r = rw (s, ← is, r, taking-heeds e font piece m)
-
-module _ (x : Lent) (piece told : List ℕ) where
-  abbrev pub at-feed : Called
-  at-feed = feed-call (x .font) piece (x .state) (x .page) (x .line) (x .staging) (x .store) told
-
-  -- what feeding is to give, and a state with it up to number 3
-  abbrev Feeds : Called → Type 0
-  Feeds g = (g ≡ at-feed) × (g .number ≤ 3 → is-state (g .state) ≡ true)
-
-  pub feed-10 : is-state (x .state) ≡ false → Feeds (left-alone x 10 told)
-  unfolding feed-call
-  feed-10 q = (simp q, λ m. absurd (omega arith))
-
-  module _ (q : is-state (x .state) ≡ true) {p : Printer} (s : p ≡ state-of (x .state)) where
-    abbrev lent-to : Machine
-    lent-to = machine p (x .page) (x .line) (x .staging) (x .store)
-
-    pub feed-unreported : {number : ℕ} → (length told ≡ report-size → ⊥)
-        → number ≡ refused-or 22 (feeding (edition-of p) (x .font) piece lent-to .answer) → Feeds (left-alone x number told)
-    unfolding feed-call
-    feed-unreported n r = (rw (q, ne-eqb (length told) report-size n, r, s), λ m. q)
-
-    pub feeds : (f : Feeding) → length told ≡ report-size → f ≡ feeding (edition-of p) (x .font) piece lent-to → feeding-words f (x .state) told ≡ at-feed
-    unfolding feed-call
-    feeds f k e = simp (eq-eqb (length told) report-size k, q, e, s)
-
-  -- a refused feeding, and one that is not
-  module _ (f : Feeding) {number : ℕ} {no : Bool} (e : feeding-words f (x .state) told ≡ at-feed) (n : number ≡ report (f .answer) .number)
-      (r : no ≡ refusal (f .answer)) where
-    pub fed-refused : no ≡ true
-        → Feeds (called number (x .state) (f .machine .page) (f .machine .line) (f .machine .staging) (f .machine .store) told)
-    unfolding feeding-words
-    fed-refused q =
-        let refused : refusal (f .answer) ≡ true = sym r ∙ q in
-        (rw (← e, refused, n), λ m. absurd (omega (arith, refusal-numbers (f .answer) refused)))
-
-    pub fed-on : {words written : List ℕ} {note place : ℕ} → no ≡ false
-        → (words ≡ state-words (f .machine .printer)) × (is-state words ≡ true)
-        → written ≡ f .taken ∷ note ∷ place ∷ 0 ∷ []
-        → note ≡ value 0 (report (f .answer))
-        → place ≡ value 1 (report (f .answer))
-        → Feeds (called number words (f .machine .page) (f .machine .line) (f .machine .staging) (f .machine .store) written)
-    unfolding feeding-words feeding-report
-    fed-on q w s a b =
-        let heeded : refusal (f .answer) ≡ false = sym r ∙ q in
-        (rw (← e, heeded, n, w .0, s, a, b), λ m. w .1)
 
 module _ (state told : List ℕ) where
   abbrev at-close : Closed

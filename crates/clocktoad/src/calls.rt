@@ -1,63 +1,30 @@
 // The calls of another language. Each takes whatever it is handed, and refuses by number what doesn't fit.
 ghost use mathlib.Core.Path.{_≡_};
 ghost use mathlib.Core.Bool.{true};
-ghost use mathlib.Core.List.{List, [], _∷_};
+ghost use mathlib.Core.List.{[]};
 ghost use lib.ListN.{length};
-ghost use Prim.Native.Nat.{ℕ, _≤_};
-ghost use Rattle.printer.specs.Given.{machine};
-ghost use Rattle.printer.specs.Machine.{edition-of};
-ghost use Rattle.protocol.specs.Calls.{feeding};
+ghost use Prim.Native.Nat.{_≤_};
 ghost use Rattle.words.specs.Words.{is-state, state-size};
-ghost use Rattle.clocktoad.specs.Calls.{called, close-call, feed-call, model-call, open-call, refused-or, report-size, shut-words};
+ghost use Rattle.feeding.specs.Feeding.{called, feed-call};
+ghost use Rattle.clocktoad.specs.Calls.{close-call, model-call, open-call, shut-words};
 use answers::admit;
-use answers::fit;
+use feeding::REPORT_WORDS;
+use feeding::feed_words;
+use feeding::refused_or;
+use feeding::tell;
 use job::calls::close;
-use job::calls::feed;
 use job::calls::open;
-use printer::Printer;
-use protocol::Answer;
-use protocol::Fit;
 use protocol::numbers::answer_number;
 use protocol::numbers::close_number;
 use protocol::numbers::close_place;
-use protocol::numbers::noted_number;
-use protocol::numbers::noted_place;
 use protocol::numbers::refusal;
 use sheet::Model;
-use state::sound;
 use words::STATE_WORDS;
 use words::is_model;
 use words::is_state;
 use words::model_of;
-use words::pending_read;
-use words::put;
 use words::put_new;
 use words::state_of;
-use words::state_with;
-
-// How many words a report has.
-pub const REPORT_WORDS: usize = 4;
-
-// Writes the words of a report.
-fn tell(report: &mut [u64], taken: usize, number: u64, place: u64)
-    requires { ⌜ length (now report) ≡ report-size ⌝ }
-    ensures { λ _. ⌜ now (report .exit) ≡ taken ∷ number ∷ place ∷ 0 ∷ [] ⌝ }
-{
-    report[0] = taken as u64;
-    report[1] = number;
-    report[2] = place;
-    report[3] = 0;
-}
-
-// The number of a refusal, or else that of what is lent beside it and has the wrong length.
-fn refused_or(number: u64, answer: Answer) -> u64
-    ensures { λ r. ⌜ r ≡ refused-or number answer ⌝ }
-{
-    if refusal(answer) {
-        return answer_number(answer);
-    }
-    number
-}
 
 // Opens a job of a model.
 fn open_model(
@@ -138,30 +105,6 @@ pub extern "C" fn clocktoad_open(
     )
 }
 
-// The answer to a feeding with a report of the wrong length: 22, after all that feeding refuses besides.
-fn unreported(
-    p: Printer,
-    page: &[u8],
-    line: &[u16],
-    staging: &[u8],
-    store: &[u8],
-    font: &[u8],
-) -> u64
-    ensures { λ r. ⌜ ((piece : List ℕ) → r ≡ refused-or 22 (feeding (edition-of p) (now (font .entry)) piece
-        (machine p (now (page .entry)) (now (line .entry)) (now (staging .entry)) (now (store .entry))) .answer)) ⌝ }
-{
-    if !sound(p) {
-        return 10;
-    }
-    let model = p.model;
-    let form = p.form;
-    let fitting = fit(model, form, page, line, staging, store, font);
-    match fitting {
-        Fit::Wrong(lent) => answer_number(Answer::Misfit(lent)),
-        Fit::Right => 22,
-    }
-}
-
 // Feeds a piece of the job.
 #[no_mangle]
 pub extern "C" fn clocktoad_feed(
@@ -179,23 +122,7 @@ pub extern "C" fn clocktoad_feed(
         (now (staging .entry)) (now (store .entry)) (now (report .entry)) ⌝ }
     ensures { λ r. ⌜ (r ≤ 3 → is-state (now (state .exit)) ≡ true) ⌝ }
 {
-    if !is_state(state) {
-        return 10;
-    }
-    if report.len() != REPORT_WORDS {
-        return unreported(state_of(state), page, line, staging, store, font);
-    }
-    // In two parts, each small enough to be compiled into the call.
-    let p = state_with(state, pending_read(state));
-    let fed = feed(p, piece, page, line, staging, store, font);
-    let printer = fed.printer;
-    let answer = fed.answer;
-    if refusal(answer) {
-        return answer_number(answer);
-    }
-    put(state, printer);
-    tell(report, fed.taken, noted_number(answer), noted_place(answer));
-    answer_number(answer)
+    feed_words(state, page, line, staging, store, font, piece, report)
 }
 
 // Closes a job.

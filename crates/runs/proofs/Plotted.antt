@@ -14,14 +14,13 @@ use Rattle.printer.specs.declared.Printer.{Printer}
 use Rattle.printer.specs.declared.Style.{Style}
 use Rattle.printer.specs.Alone.{alone}
 use Rattle.printer.specs.Bytes.{act, first-byte, step}
-use Rattle.printer.specs.Given.{machine}
+use Rattle.printer.specs.Given.{machine, moved}
 use Rattle.printer.specs.Machine.{Machine, limit}
 use Rattle.printer.specs.Plotting.{plot, plots, plot-byte}
 use Rattle.printer.specs.Printing.{past}
 use Rattle.printer.specs.Steps.{quiet}
 use Rattle.runs.specs.Runs.{Plotting, goes-on, running}
 use Rattle.runs.proofs.Running.{Runs, runs-on, runs-out}
-use Rattle.runs.proofs.Typed.{moved}
 
 -- what the code tests of a byte: it is a column, and it ends within w positions
 pub drawing : (b next w : ℕ) {r : Bool} → r ≡ (plots b && leb next w) → not r ≡ false → (plots b ≡ true) × (next ≤ w)

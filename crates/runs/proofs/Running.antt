@@ -1,13 +1,13 @@
 -- A run under way, byte by byte: one byte more, and where it ends.
 use Prim.Native.Nat.{ℕ, suc, _+_, _-_, _≤_, _<_}
-use mathlib.Core.Bool.{Bool, true, false, _&&_}
+use mathlib.Core.Bool.{Bool, true, false, cond, _&&_}
 use mathlib.Core.List.{List, [], _∷_}
-use mathlib.Core.Path.{_≡_, refl, ap, sym, _∙_}
+use mathlib.Core.Path.{_≡_, refl, ap, subst, sym, _∙_}
 use native.Mathlib.Decide.{decLe}
 use native.Mathlib.Numerals.{add-one}
 use native.Mathlib.Omega.{arith}
 use borrow.Author.Tests.{le-ltb, lt-ltb}
-use lib.Dec.{ltb}
+use lib.Dec.{T, ltb, ltb→lt}
 use lib.ListN.{drop, drop-of-length-le, getD, length}
 use lib.Seq.{drop-cons}
 use Rattle.sheet.specs.Edition.{Edition}
@@ -16,7 +16,7 @@ use Rattle.printer.specs.Bytes.{step}
 use Rattle.printer.specs.Machine.{Machine, limit}
 use Rattle.printer.specs.Steps.{quiet}
 use Rattle.runs.specs.declared.Ran.{Ran}
-use Rattle.runs.specs.Runs.{Run, fitting, given-run, goes-on, no-run, running}
+use Rattle.runs.specs.Runs.{Run, fitting, given-run, goes-on, longer, no-run, running}
 
 -- a run with n bytes more before it
 abbrev further : ℕ → Run → Run
@@ -56,12 +56,12 @@ module _ {e : Edition} {font piece : List ℕ} {n : ℕ} {m a : Machine} (h : Ru
       h .same ∙ ap (further n) q ∙ ap (λ (k : ℕ). record { taken = k; machine = a }) zero
 
   -- where the piece ends
-  runs-dry : length piece ≤ n → running e font piece m ≡ record { taken = n; machine = a }
+  pub runs-dry : length piece ≤ n → running e font piece m ≡ record { taken = n; machine = a }
   unfolding running
   runs-dry l = stops (simp (drop-of-length-le piece l))
 
   -- where the job is full
-  runs-full : n < length piece → limit ≤ a .printer .job → running e font piece m ≡ record { taken = n; machine = a }
+  pub runs-full : n < length piece → limit ≤ a .printer .job → running e font piece m ≡ record { taken = n; machine = a }
   unfolding running
   runs-full l full = stops (simp (drop-cons piece n 0 l, le-ltb (a .printer .job) limit full))
 
@@ -119,6 +119,27 @@ module _ {n k job₀ job : ℕ} (t : Taken n k job₀ job) (another : k < n) whe
 pub comes-back : {r s : Ran} {page line staging store : List ℕ} {x : Run} → r ≡ s → x ≡ given-run s page line staging store
     → given-run r page line staging store ≡ x
 comes-back e h = rw e (sym h)
+
+-- a byte goes on only in a job that has room for it
+pub room-taken : (e : Edition) (font : List ℕ) (b : ℕ) (m : Machine) (r : Run) → r ≡ running e font (b ∷ []) m → 1 ≤ r .taken → m .printer .job < limit
+unfolding running
+room-taken e font b m r is some = go _ _ _ refl (subst (λ (x : Run). 1 ≤ x .taken) is some)
+  where
+    go : (s t : Bool) (x : Run) → ltb (m .printer .job) limit ≡ s → 1 ≤ cond (s && t) x (no-run m) .taken → m .printer .job < limit
+    go true t x full h = ltb→lt _ _ (subst T (sym full) tt)
+    go false t x full h = absurd (omega arith)
+
+-- a run of no byte leads nowhere
+pub stays-put : (e : Edition) (font : List ℕ) (b : ℕ) (m : Machine) (r : Run) → r ≡ running e font (b ∷ []) m → r .taken ≡ 0 → r .machine ≡ m
+unfolding running
+stays-put e font b m r is none =
+    ap (λ (x : Run). x .machine) is
+    ∙ go (ltb (m .printer .job) limit && goes-on e b (m .printer .pending) (m .printer)) (running e font [] (step e font b m .machine))
+    (sym (ap (λ (x : Run). x .taken) is) ∙ none)
+  where
+    go : (t : Bool) (x : Run) → cond t (longer x) (no-run m) .taken ≡ 0 → cond t (longer x) (no-run m) .machine ≡ m
+    go true x h = absurd (omega arith)
+    go false x h = refl
 
 module _ (e : Edition) (font piece : List ℕ) (m : Machine) where
   -- where no byte goes on, a piece begins with no run

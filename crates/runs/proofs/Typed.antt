@@ -3,29 +3,27 @@ use Prim.Native.Nat.{ℕ, _+_, _*_, _≤_, _<_}
 use mathlib.Core.Bool.{Bool, true, false, cond, not, _&&_, and-eq-true-iff, true≢false}
 use mathlib.Core.List.{List}
 use mathlib.Core.Path.{_≡_, refl, ap, sym, _∙_}
+use native.Mathlib.Nat.{mul-le-mul-right}
 use native.Mathlib.Omega.{arith}
 use borrow.Author.Tests.{le-leb, leb-true, ne-eqb, not-false}
 use lib.Dec.{leb}
 use lib.ListN.{getD, length}
-use Rattle.sheet.specs.Edition.{Edition}
-use Rattle.sheet.proofs.Editions.{Proper}
+use Rattle.sheet.specs.declared.Model.{Model}
+use Rattle.sheet.specs.Edition.{Edition, described}
+use Rattle.sheet.proofs.Editions.{Proper, described-bounded}
 use Rattle.glyph.specs.Entering.{cell, enter}
 use Rattle.glyph.specs.Room.{Room}
+use Rattle.glyph.proofs.Cells.{cell-bounds}
 use Rattle.printer.specs.declared.Printer.{Printer}
 use Rattle.printer.specs.declared.Style.{Style}
 use Rattle.printer.specs.Alone.{alone, prints, text-byte}
 use Rattle.printer.specs.Bytes.{act, first-byte, step}
-use Rattle.printer.specs.Given.{machine}
+use Rattle.printer.specs.Given.{machine, moved}
 use Rattle.printer.specs.Machine.{Machine, limit, store-size}
-use Rattle.printer.specs.Printing.{entered, moved-to, past, print}
+use Rattle.printer.specs.Printing.{entered, past, print}
 use Rattle.printer.specs.Steps.{quiet}
 use Rattle.runs.specs.Runs.{Typing, goes-on, running}
 use Rattle.runs.proofs.Running.{Runs, runs-on, runs-out}
-
--- the state with a byte counted and the head moved on
-abbrev pub moved : ℕ → Printer → Printer
-moved next p =
-    record { model = p .model; form = p .form; job = p .job + 1; pending = p .pending; head = moved-to next (p .head); style = p .style; tabs = p .tabs }
 
 -- what the code tests of a byte: it prints, and its cell ends within w positions
 pub entering : (b next w : ℕ) {r : Bool} → r ≡ (prints b && leb next w) → not r ≡ false → (prints b ≡ true) × (next ≤ w)
@@ -69,6 +67,15 @@ pub record Pace (e : Edition) (style : Style) (stride each w : ℕ) : Type 0 whe
   pub steps : stride ≡ e .stride (style .pitch)
   pub cells : each ≡ stride * cell (style .elongated)
   pub width : w ≡ e .width (style .pitch)
+
+-- a column takes five positions at most, and a cell a hundred
+module _ (model : Model) {style : Style} {stride each w : ℕ} (pace : Pace (described model) style stride each w) where
+  pub stride-most : stride ≤ 5
+  stride-most = rw (pace .steps) (described-bounded model .stride (style .pitch))
+
+  pub cell-most : each ≤ 100
+  cell-most =
+      omega (arith, pace .cells, cell-bounds (style .elongated), mul-le-mul-right (cell (style .elongated)) stride-most)
 
 module _ {e : Edition} (proper : Proper e) {style : Style} {stride each w : ℕ} (pace : Pace e style stride each w) where
   -- its cell is on the line

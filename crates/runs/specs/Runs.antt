@@ -15,11 +15,13 @@ use Rattle.printer.specs.declared.Pending.the-variants.{Bracket}
 use Rattle.printer.specs.declared.Printer.{Printer}
 use Rattle.printer.specs.Alone.{prints}
 use Rattle.printer.specs.Bytes.{step}
-use Rattle.printer.specs.Given.{machine}
+use Rattle.printer.specs.Given.{machine, moved}
 use Rattle.printer.specs.Machine.{Machine, limit}
 use Rattle.printer.specs.Plotting.{plots}
 use Rattle.printer.specs.Printing.{past}
 use Rattle.runs.specs.declared.Ran.{Ran}
+use Rattle.runs.specs.declared.Reached.{Reached}
+use Rattle.runs.specs.declared.Reached.the-variants.{Nowhere, At}
 
 -- a byte is a character whose cell fits the line
 abbrev pub types : Edition → ℕ → Printer → Bool
@@ -67,6 +69,11 @@ running e font (b ∷ bs) m =
 -- what a function of src/ gives back, with the memory as it leaves it
 abbrev pub given-run : Ran → List ℕ → List ℕ → List ℕ → List ℕ → Run
 given-run r page line staging store = record { taken = r .taken; machine = machine (r .printer) page line staging store }
+
+-- the run of a single byte, by where it has brought the head
+unfoldable pub reached : Reached → Printer → Ran
+reached Nowhere p = record { printer = p; taken = 0 }
+reached (At column) p = record { printer = moved column p; taken = 1 }
 
 -- how many bytes of a piece fit the job
 abbrev pub fitting : ℕ → List ℕ → ℕ

@@ -7,9 +7,17 @@ pub struct Ran {
     pub taken: usize,
 }
 
+// Where a single byte has brought the head, if it goes on a run.
+pub enum Reached {
+    Nowhere,
+    At(usize),
+}
+
+mod byte;
 mod payload;
 mod plots;
 mod runs;
 mod text;
 
+pub use byte::single;
 pub use runs::run;

@@ -17,14 +17,14 @@ use sheet::sizes::stride;
 use sheet::sizes::width;
 
 // Whether a byte is a column, and it ends by position `next` on a line of w positions.
-fn draws(b: u8, next: usize, w: usize) -> bool
+pub(crate) fn draws(b: u8, next: usize, w: usize) -> bool
     ensures { λ r. ⌜ r ≡ (plots b && leb next w) ⌝ }
 {
     plots(b) && next <= w
 }
 
 // A byte as wires: the lowest seven.
-fn wires(b: u8) -> u16
+pub(crate) fn wires(b: u8) -> u16
     ensures { λ r. ⌜ r ≡ b ⌝ }
 {
     b as u16

@@ -19,14 +19,14 @@ use sheet::sizes::stride;
 use sheet::sizes::width;
 
 // Whether a byte prints, and its cell, which ends before position `next`, fits a line of w positions.
-fn enters(b: u8, next: usize, w: usize) -> bool
+pub(crate) fn enters(b: u8, next: usize, w: usize) -> bool
     ensures { λ r. ⌜ r ≡ (prints b && leb next w) ⌝ }
 {
     prints(b) && next <= w
 }
 
 // The number of a byte's glyph.
-fn code(b: u8) -> usize
+pub(crate) fn code(b: u8) -> usize
     ensures { λ r. ⌜ r ≡ b ⌝ }
 {
     b as usize

@@ -18,7 +18,7 @@ use Rattle.printer.specs.declared.Pending.the-variants.{AddressHigh, AddressLow
 use Rattle.printer.specs.declared.Printer.{Printer}
 use Rattle.printer.specs.declared.Setting.{Setting}
 use Rattle.printer.specs.declared.Setting.the-variants.{Omitted, Given}
-use Rattle.words.specs.Words.{Ranged, at-most, form-of, head-of, in-range, is-state, model-of, model-word, number-limit, part, pending-of}
+use Rattle.words.specs.Words.{Ranged, at-most, form-of, head-of, in-range, in-range-before, is-state, model-of, model-word, number-limit, part, pending-of}
 use Rattle.words.specs.Words.{pending-words, pitch-of, pitch-word, setting-of, setting-word, state-of, state-size, state-words, style-of, truth}
 
 truth-kept : (b : Bool) → eqb (truth b) 1 ≡ b
@@ -124,7 +124,7 @@ in-six (Payload place l) h = simp (le-leb _ _ (h .0), le-leb _ _ (h .1), le-leb 
 in-six (Bracket place s) h = simp (le-leb _ _ (h .0), le-leb _ _ (h .1), le-leb _ _ (h .2), le-leb _ _ (h .3), le-leb _ _ (h .4))
 
 put-in-range : (p : Printer) → p .job ≤ limit → Ranged (p .pending) → in-range (state-words p) ≡ true
-unfolding in-range state-words at-most
+unfolding in-range in-range-before state-words at-most
 put-in-range p j h = simp (le-leb _ _ j, truth-small, model-small, pitch-small) (in-six (p .pending) h)
 
 -- what was put together is a state

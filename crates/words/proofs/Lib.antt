@@ -3,3 +3,4 @@ pub mod Ranges
 pub mod Kept
 pub mod Writing
 pub mod Reading
+pub mod Resting

@@ -8,7 +8,7 @@ use borrow.Author.Tests.{eqb-true, le-leb, leb-true, lt-leb}
 use lib.Dec.{eqb, leb}
 use lib.ListN.{drop, getD, length, take}
 use lib.Seq.{drop-cons}
-use Rattle.words.specs.Words.{at-most, in-range, is-state, number-limit, part, state-size}
+use Rattle.words.specs.Words.{at-most, in-range, in-range-before, is-state, number-limit, part, state-size}
 
 -- one word more of a part
 part-turn : (m k n : ℕ) (ws : List ℕ) → k < length ws
@@ -44,7 +44,7 @@ unfolding at-most
 part-end m k n i ws l = let e : n - i ≡ 0 = omega arith in simp e
 
 -- a part whose words are in range has its first in range, and so the next
-first : (m k n : ℕ) (ws : List ℕ) → k < length ws → at-most m (take (suc n) (drop k ws)) ≡ true
+pub first : (m k n : ℕ) (ws : List ℕ) → k < length ws → at-most m (take (suc n) (drop k ws)) ≡ true
     → (getD ws k 0 ≤ m) × (at-most m (take n (drop (suc k) ws)) ≡ true)
 first m k n ws h q =
     let both = and-eq-true-iff (leb (getD ws k 0) m) (at-most m (take n (drop (suc k) ws))) .0 (sym (part-turn m k n ws h) ∙ q) in
@@ -92,7 +92,7 @@ pub of-kind : {n kind : ℕ} (k : ℕ) → kind ≡ k → n ≤ number-limit kin
 of-kind {n} k e h = subst (λ (j : ℕ). n ≤ number-limit j) e h
 
 pub ranges : (ws : List ℕ) → length ws ≡ state-size → in-range ws ≡ true → InRange ws
-unfolding in-range
+unfolding in-range in-range-before
 ranges ws l r =
     let small : ℕ → ℕ → ℕ → Bool = λ m k n. at-most m (part k n ws) in
     let most : ℕ = number-limit (getD ws 17 0) in

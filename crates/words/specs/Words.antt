@@ -96,12 +96,14 @@ part k n ws = take n (drop k ws)
 unfoldable pub number-limit : ℕ → ℕ
 number-limit kind = cond (eqb kind 11) 65536 65535
 
--- each number of a state has its range; one that has none but the word's own is a state's whatever it is
+-- each number of a state before what is pending has its range; one that has none but the word's own is a state's whatever it is
+unfoldable pub in-range-before : List ℕ → Bool
+in-range-before ws = at-most 1 (part 0 1 ws) && at-most limit (part 5 1 ws) && at-most 1 (part 8 7 ws)
+
+-- each number of a state has its range
 unfoldable pub in-range : List ℕ → Bool
 in-range ws =
-    at-most 1 (part 0 1 ws)
-    && at-most limit (part 5 1 ws)
-    && at-most 1 (part 8 7 ws)
+    in-range-before ws
     && at-most 11 (part 17 1 ws)
     && at-most limit (part 18 1 ws)
     && at-most 255 (part 19 1 ws)
@@ -110,6 +112,10 @@ in-range ws =
 -- words are a state: as many as a state has, each in range
 unfoldable pub is-state : List ℕ → Bool
 is-state ws = eqb (length ws) state-size && in-range ws
+
+-- words are a state in which nothing is pending, with 0 in each word of what is
+unfoldable pub at-rest : List ℕ → Bool
+at-rest ws = eqb (length ws) state-size && at-most 0 (part 17 6 ws) && in-range-before ws
 
 -- a word is a model's number
 unfoldable pub is-model : ℕ → Bool

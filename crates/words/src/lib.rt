@@ -2,12 +2,14 @@
 ghost use mathlib.Core.Path.{_≡_};
 ghost use mathlib.Core.Bool.{true};
 ghost use mathlib.Core.List.{[], _∷_, _++_};
-ghost use Prim.Native.Nat.{_+_, _≤_};
-ghost use lib.ListN.{length, take};
+ghost use Prim.Native.Nat.{_+_, _≤_, _<_};
+ghost use lib.ListN.{getD, length, take};
 ghost use Rattle.sheet.specs.Form.{new-form};
 ghost use Rattle.printer.specs.Machine.{limit, new-printer};
 ghost use Rattle.printer.specs.declared.Pending.the-variants.{Bracket};
-ghost use Rattle.words.specs.Words.{Ranged, at-most, form-of, head-of, in-range, is-model, is-state, model-of, model-word, number-limit, part};
+ghost use Rattle.printer.specs.declared.Printer.{Printer};
+ghost use Rattle.printer.specs.Given.{moved};
+ghost use Rattle.words.specs.Words.{Ranged, at-most, at-rest, form-of, head-of, in-range, in-range-before, is-model, is-state, model-of, model-word, number-limit, part};
 ghost use Rattle.words.specs.Words.{pending-of, pending-read, pending-words, pitch-of, pitch-word, setting-of, setting-word};
 ghost use Rattle.words.specs.Words.{state-of, state-size, state-with, state-words, style-of, truth};
 use printer::Head;
@@ -158,6 +160,16 @@ pub fn put(state: &mut [u64], p: Printer)
     put_pending(state, pending);
 }
 
+// Changes the words of a state to those after a byte that has brought the head to a position.
+pub fn advance(state: &mut [u64], column: usize)
+    requires { ⌜ (length (now state) ≡ state-size) × (getD (now state) 5 0 < limit) ⌝ }
+    ensures { λ _. ⌜ ((p : Printer) → now (state .entry) ≡ state-words p → now (state .exit) ≡ state-words (moved column p)) ⌝ }
+{
+    state[5] += 1;
+    state[7] = column as u64;
+    state[8] = 0;
+}
+
 // Puts the state of a job just opened into words, which are then a state; of no lines it is the shut one.
 pub fn put_new(state: &mut [u64], model: Model, lines: usize, spacing: usize)
     requires { ⌜ length (now state) ≡ state-size ⌝ }
@@ -206,10 +218,10 @@ fn number_limit(kind: u64) -> u64
     if kind == 11 { 65536 } else { 65535 }
 }
 
-// Whether each word of a state is in the range of its number.
-fn in_range(state: &[u64]) -> bool
+// Whether each word before what is pending is in the range of its number.
+fn in_range_before(state: &[u64]) -> bool
     requires { ⌜ length (now state) ≡ state-size ⌝ }
-    ensures { λ r. ⌜ r ≡ in-range (now (state .entry)) ⌝ }
+    ensures { λ r. ⌜ r ≡ in-range-before (now (state .entry)) ⌝ }
 {
     if !at_most(state, 0, 1, 1) {
         return false;
@@ -217,7 +229,15 @@ fn in_range(state: &[u64]) -> bool
     if !at_most(state, 5, 1, JOB_LIMIT as u64) {
         return false;
     }
-    if !at_most(state, 8, 7, 1) {
+    at_most(state, 8, 7, 1)
+}
+
+// Whether each word of a state is in the range of its number.
+fn in_range(state: &[u64]) -> bool
+    requires { ⌜ length (now state) ≡ state-size ⌝ }
+    ensures { λ r. ⌜ r ≡ in-range (now (state .entry)) ⌝ }
+{
+    if !in_range_before(state) {
         return false;
     }
     if !at_most(state, 17, 1, 11) {
@@ -240,6 +260,19 @@ pub fn is_state(state: &[u64]) -> bool
         return false;
     }
     in_range(state)
+}
+
+// Whether words are a state in which nothing is pending, with 0 in each word of what is.
+pub fn at_rest(state: &[u64]) -> bool
+    ensures { λ r. ⌜ r ≡ at-rest (now (state .entry)) ⌝ }
+{
+    if state.len() != STATE_WORDS {
+        return false;
+    }
+    if !at_most(state, 17, 6, 0) {
+        return false;
+    }
+    in_range_before(state)
 }
 
 // A word as a count.

@@ -4,8 +4,9 @@ use borrow.Author.Needs.{needs}
 use mathlib.Core.List.{[]}
 use mathlib.Core.Path.{sym, _∙_}
 use borrow.Author.Tests.{not-false, not-true}
-use Rattle.clocktoad.specs.Calls.{Called, called}
-use Rattle.clocktoad.proofs.Calling.{Lent, open-known, open-unknown}
+use Rattle.feeding.specs.Feeding.{Called, called}
+use Rattle.feeding.proofs.Feeding.{Lent}
+use Rattle.clocktoad.proofs.Calling.{open-known, open-unknown}
 use Rattle.clocktoad.proofs.calls.clocktoad_open.Statement.{statement}
 use Rattle.clocktoad.proofs.calls.clocktoad_open.Tie as tie
 use Places.*

@@ -11,9 +11,10 @@ use Rattle.printer.specs.Machine.{shut}
 use Rattle.protocol.specs.Answers.{report}
 use Rattle.protocol.specs.Calls.{Opening}
 use Rattle.protocol.specs.Given.{given-opening}
-use Rattle.clocktoad.specs.Calls.{called}
+use Rattle.feeding.specs.Feeding.{called}
+use Rattle.feeding.proofs.Feeding.{Lent}
 use Rattle.words.specs.Words.{is-state, state-words}
-use Rattle.clocktoad.proofs.Calling.{Lent, Opens, new-given, open-unkept, opens, shut-given}
+use Rattle.clocktoad.proofs.Calling.{Opens, new-given, open-unkept, opens, shut-given}
 use Rattle.clocktoad.proofs.calls.open_model.Statement.{statement}
 use Rattle.clocktoad.proofs.calls.open_model.Tie as tie
 use Places.*

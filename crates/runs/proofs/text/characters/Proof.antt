@@ -5,19 +5,17 @@ use Prim.Native.Nat.{ℕ, _+_, _-_, _*_, _≤_, _<_}
 use mathlib.Core.Bool.{cond, true}
 use mathlib.Core.List.{List}
 use mathlib.Core.Path.{_≡_, refl, ap, sym, _∙_}
-use native.Mathlib.Nat.{mul-le-mul-right}
 use native.Mathlib.Omega.{arith}
 use borrow.Author.Tests.{not-true}
 use lib.ListN.{getD, length}
 use Rattle.sheet.proofs.Editions.{described-bounded, described-proper}
-use Rattle.glyph.proofs.Cells.{cell-bounds}
 use Rattle.printer.specs.declared.Printer.{Printer}
 use Rattle.printer.specs.Alone.{prints}
 use Rattle.printer.specs.Given.{machine}
 use Rattle.printer.specs.Machine.{edition-of, limit}
 use Rattle.runs.specs.Runs.{Typing}
 use Rattle.runs.proofs.Running.{Runs, Taken, another-byte, none-taken, one-more, room-for-it, runs-nowhere, runs-over}
-use Rattle.runs.proofs.Typed.{Pace, entering, roomy, stays-on, typed-on, typed-out, types-still}
+use Rattle.runs.proofs.Typed.{Pace, cell-most, entering, roomy, stays-on, stride-most, typed-on, typed-out, types-still}
 use Rattle.runs.proofs.text.characters.Statement.{statement}
 use Rattle.runs.proofs.text.characters.Tie as tie
 use Places.*
@@ -66,21 +64,16 @@ pace c =
       width = c .before .before .width .ensures;
     }
 
--- a column takes five positions at most, and a cell a hundred
-stride-most : (c : tie.After-cell Inv-loop μ-loop) → c .before .stride .result ≤ 5
-stride-most c = let p = start-at-cell c .args .p in rw (c .before .stride .ensures) (described-bounded (p .model) .stride (p .style .pitch))
-
-cell-most : (c : tie.After-cell Inv-loop μ-loop) → c .before .stride .result * c .cell .result ≤ 100
-cell-most c =
-    let most = cell-bounds (start-at-cell c .args .p .style .elongated) in
-    omega (arith, c .cell .ensures, most, mul-le-mul-right (c .cell .result) (stride-most c))
+-- its cell takes a hundred positions at most
+cell-small : (c : tie.After-cell Inv-loop μ-loop) → c .before .stride .result * c .cell .result ≤ 100
+cell-small c = cell-most (start-at-cell c .args .p .model) (pace c)
 
 mul-each : tie.Need-mul-each Inv-loop μ-loop
-mul-each c = omega (arith, cell-most c)
+mul-each c = omega (arith, cell-small c)
 
 add-next : tie.Need-add-next Inv-loop μ-loop
 add-next c =
-    omega (arith, cell-most (cell-at-add-next c), loop-at-add-next c .loop .inv .column, described-bounded (start-at-add-next c .args .p .model) .columns)
+    omega (arith, cell-small (cell-at-add-next c), loop-at-add-next c .loop .inv .column, described-bounded (start-at-add-next c .args .p .model) .columns)
 
 returns : tie.Need-returns Inv-loop μ-loop
 returns c page staging store font e =
@@ -108,7 +101,7 @@ enter-requires : tie.Need-enter-requires Inv-loop μ-loop
 enter-requires c κs =
     let s = start-at-enter-requires c in
     let k = cell-at-enter-requires c in
-    roomy (described-proper (s .args .p .model)) (pace k) (stride-most k) (character (c .before .before))
+    roomy (described-proper (s .args .p .model)) (pace k) (stride-most (s .args .p .model) (pace k)) (character (c .before .before))
     (c .code .ensures) (loop-at-enter-requires c .loop .inv .kept ∙ s .pre .2) (s .pre .3)
 
 loop-again : tie.Need-loop-again Inv-loop μ-loop

@@ -1,0 +1,2 @@
+-- What is true of feeding over words.
+pub mod Feeding

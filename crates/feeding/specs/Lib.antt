@@ -1,0 +1,2 @@
+-- Feeding for programs in other languages.
+pub mod Feeding
