@@ -1,4 +1,4 @@
--- The columns of a line struck some at a time, and where eight of them stand on the page.
+-- The columns of a line struck some at a time, and where those struck at once stand on the page.
 use Prim.Native.Nat.{ℕ, _+_, _*_, _/_, _%_, _≤_, _<_}
 use mathlib.Core.Path.{_≡_, refl, sym, ap, ap₂, _∙_}
 use mathlib.Core.List.{List, [], _∷_, _++_, append-assoc}
@@ -18,21 +18,22 @@ use Rattle.sheet.proofs.Editions.{described-proper}
 use Rattle.sheet.proofs.Blackening.{blacken-all-append, length-blacken-all}
 use Rattle.striking.specs.Room.{Room}
 
--- W is a multiple of eight
-by-eight : (w : Model) (pitch : Pitch) → described w .width pitch % 8 ≡ 0
-unfolding lp2 dg6215
-by-eight Lp2 Normal = refl
-by-eight Lp2 Compressed = refl
-by-eight Dg6215 pitch = refl
+-- How many positions fill whole bytes of a row and are struck at once.
+abbrev pub at-once : Model → ℕ
+at-once Lp2 = 8
+at-once Dg6215 = 16
 
--- from a multiple of eight below W on, eight positions are below W
-eight-below : (w : Model) (pitch : Pitch) (c : ℕ) → c % 8 ≡ 0 → c < described w .width pitch → c + 8 ≤ described w .width pitch
-eight-below w pitch c h l = omega (arith, by-eight w pitch)
+-- W is a multiple of so many, so from a multiple below W on, so many positions are below W
+once-below : (w : Model) (pitch : Pitch) (c : ℕ) → c % at-once w ≡ 0 → c < described w .width pitch → c + at-once w ≤ described w .width pitch
+unfolding lp2 dg6215
+once-below Lp2 Normal c h l = omega arith
+once-below Lp2 Compressed c h l = omega arith
+once-below Dg6215 pitch c h l = omega arith
 
 -- and so they are on the line
-pub on-line : (w : Model) (line : List ℕ) (pitch : Pitch) (c : ℕ) → c % 8 ≡ 0 → c < described w .width pitch → length line ≡ described w .columns
-    → c + 8 ≤ length line
-on-line w line pitch c h l full = omega (arith, eight-below w pitch c h l, described-proper w .wide pitch)
+pub on-line : (w : Model) (line : List ℕ) (pitch : Pitch) (c : ℕ) → c % at-once w ≡ 0 → c < described w .width pitch
+    → length line ≡ described w .columns → c + at-once w ≤ length line
+on-line w line pitch c h l full = omega (arith, once-below w pitch c h l, described-proper w .wide pitch)
 
 -- a multiple of a multiple of eight is eight times that multiple of its eighth
 by-eighths : (n c : ℕ) → c % 8 ≡ 0 → n * c ≡ n * (c / 8) * 8
@@ -40,36 +41,36 @@ by-eighths n c h =
     let whole : c ≡ c / 8 * 8 = omega arith in
     ap (λ (k : ℕ). n * k) whole ∙ sym (mul-assoc n (c / 8) 8)
 
--- how many bytes of a row eight positions take
+-- how many bytes of a row they take
 abbrev pub taken : Model → Pitch → ℕ
 taken Lp2 pitch = apart-by pitch
-taken Dg6215 pitch = 1
+taken Dg6215 pitch = 2
 
--- a position whose number is a multiple of eight stands at the top of a byte
-at-top : (w : Model) (pitch : Pitch) (c : ℕ) → c % 8 ≡ 0 → described w .grid pitch c .0 ≡ taken w pitch * (c / 8) * 8
+-- a position whose number is a multiple of so many stands at the top of a byte
+at-top : (w : Model) (pitch : Pitch) (c : ℕ) → c % at-once w ≡ 0 → described w .grid pitch c .0 ≡ taken w pitch * (c / at-once w) * 8
 unfolding lp2 dg6215
 at-top Lp2 pitch c h = by-eighths (apart-by pitch) c h
 at-top Dg6215 pitch c h = omega arith
 
--- from there on eight positions below W are within the row
-filled : (w : Model) (pitch : Pitch) (c : ℕ) → c % 8 ≡ 0 → c < described w .width pitch
-    → taken w pitch * (c / 8) + taken w pitch ≤ described w .bytes
+-- from there on so many positions below W are within the row
+filled : (w : Model) (pitch : Pitch) (c : ℕ) → c % at-once w ≡ 0 → c < described w .width pitch
+    → taken w pitch * (c / at-once w) + taken w pitch ≤ described w .bytes
 unfolding lp2 dg6215
 filled Lp2 Normal c h l = omega arith
 filled Lp2 Compressed c h l = omega arith
 filled Dg6215 pitch c h l = omega arith
 
--- Eight positions from c on begin at the top of byte `at`, in the row of their wire 1, and their nine rows are on the page.
+-- The positions struck at once from c on begin at the top of byte `at`, in the row of their wire 1, and their nine rows are on the page.
 pub record Placed (w : Model) (page : List ℕ) (row : Row) (pitch : Pitch) (c at : ℕ) : Type 0 where
   pub top : at * 8 ≡ dot-at (described w) row (described w .grid pitch c)
   pub fits : at + 8 * described w .bytes + taken w pitch ≤ length page
 
 -- so they do in a row from which on there is room, at the byte that the position's place on the grid gives
-pub placed : (w : Model) (page line : List ℕ) (row : Row) (p q : Pitch) (c : ℕ) (g : Grid) (at : ℕ) → Room (described w) page line row → c % 8 ≡ 0
-    → c < described w .width p → p ≡ q → g ≡ described w .grid p c → at ≡ page-byte (described w) row g → Placed w page row q c at
+pub placed : (w : Model) (page line : List ℕ) (row : Row) (p q : Pitch) (c : ℕ) (g : Grid) (at : ℕ) → Room (described w) page line row
+    → c % at-once w ≡ 0 → c < described w .width p → p ≡ q → g ≡ described w .grid p c → at ≡ page-byte (described w) row g → Placed w page row q c at
 unfolding dot-at page-byte
 placed w page line row p q c g at room h l same e byte =
-    let here : g .0 ≡ taken w p * (c / 8) * 8 = ap (λ (k : Grid). k .0) e ∙ at-top w p c h in
+    let here : g .0 ≡ taken w p * (c / at-once w) * 8 = ap (λ (k : Grid). k .0) e ∙ at-top w p c h in
     let spot : g .0 ≡ described w .grid q c .0 = ap (λ (k : Grid). k .0) e ∙ ap (λ (k : Pitch). described w .grid k c .0) same in
     record {
       top = omega arith;
@@ -138,7 +139,7 @@ part-of line w c n within inside =
     ∙ ap (take n) (drop-append-le c low (drop w line) (omega arith))
     ∙ take-append-le n (drop c low) (drop w line) (omega (arith, length-drop c low))
 
--- How many positions are struck together: eight columns of an LP2, and of a 6215's positions eighty, eights of which are struck together.
+-- How many positions are struck one after the other: eight columns of an LP2 at once, and eighty positions of a 6215, sixteen at once.
 abbrev pub together : Model → ℕ
 together Lp2 = 8
 together Dg6215 = 80
@@ -198,26 +199,26 @@ pub eighty-on-line : (line : List ℕ) (pitch : Pitch) (c : ℕ) → c % 80 ≡ 
     → c + 80 ≤ length line
 eighty-on-line line pitch c h l full = omega (arith, together-below Dg6215 pitch c h l, described-proper Dg6215 .wide pitch)
 
--- Of the eighty positions from c on of a line of a 6215, the first k are struck, eights of them.
+-- Of the eighty positions from c on of a line of a 6215, the first k are struck, sixteens of them.
 pub record EightyLeft (line : List ℕ) (pitch : Pitch) (r : Row) (c : ℕ) (entry : List ℕ) (k : ℕ) (page : List ℕ) : Type 0 where
   pub left : Left dg6215 (take 80 (drop c line)) pitch r c entry k page
-  pub whole : k % 8 ≡ 0
+  pub whole : k % 16 ≡ 0
 
 module _ (line : List ℕ) (pitch : Pitch) (r : Row) (c : ℕ) (entry : List ℕ) (inside : c + 80 ≤ length line) where
   pub eighty-left : EightyLeft line pitch r c entry 0 entry
   eighty-left = record { left = all-left _ _ _ _ _ _; whole = refl }
 
-  -- eight positions more
-  pub eight-more : (page next : List ℕ) (k : ℕ) → EightyLeft line pitch r c entry k page → k < 80
-      → next ≡ blacken-all page (line-marks dg6215 (take 8 (drop (c + k) line)) pitch r (c + k)) → EightyLeft line pitch r c entry (k + 8) next
-  eight-more page next k eighty more is =
+  -- sixteen positions more
+  pub sixteen-more : (page next : List ℕ) (k : ℕ) → EightyLeft line pitch r c entry k page → k < 80
+      → next ≡ blacken-all page (line-marks dg6215 (take 16 (drop (c + k) line)) pitch r (c + k)) → EightyLeft line pitch r c entry (k + 16) next
+  sixteen-more page next k eighty more is =
       let long : length (take 80 (drop c line)) ≡ 80 = length-take-le 80 (drop c line) (omega (arith, length-drop c line)) in
-      let fit : k + 8 ≤ 80 = omega (arith, eighty .whole) in
-      let same : take 8 (drop (c + k) line) ≡ take 8 (drop k (take 80 (drop c line))) =
-      ap (take 8) (sym (drop-drop k c line)) ∙ part-of (drop c line) 80 k 8 (omega (arith, length-drop c line)) fit in
+      let fit : k + 16 ≤ 80 = omega (arith, eighty .whole) in
+      let same : take 16 (drop (c + k) line) ≡ take 16 (drop k (take 80 (drop c line))) =
+      ap (take 16) (sym (drop-drop k c line)) ∙ part-of (drop c line) 80 k 16 (omega (arith, length-drop c line)) fit in
       record {
         left =
-            some-struck dg6215 (take 80 (drop c line)) pitch r c entry page next k 8 (omega arith) (eighty .left)
+            some-struck dg6215 (take 80 (drop c line)) pitch r c entry page next k 16 (omega arith) (eighty .left)
             (is ∙ ap (λ (l : List ℕ). blacken-all page (line-marks dg6215 l pitch r (c + k))) same);
         whole = omega (arith, eighty .whole);
       }

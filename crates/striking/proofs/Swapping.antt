@@ -3,10 +3,11 @@ use Prim.Native.Nat.{ℕ, suc, _+_, _-_, _*_, _/_, _%_, _^_, _≤_, _<_}
 use mathlib.Core.Path.{_≡_, sym, ap, ap₂, _∙_}
 use mathlib.Core.List.{List}
 use native.Mathlib.Omega.{arith}
-use native.Mathlib.Nat.{mod-lt}
-use lib.Pow.{pow-add, shr-shr}
-use lib.Bits.{bitOr}
+use native.Mathlib.Nat.{add-zero, mod-lt}
+use lib.Pow.{field, low, mod-mod-pow, pow-add, shr-shr}
+use lib.Bits.{bitOr, or-lt, or-mod, or-shr}
 use lib.ListN.{getD, set}
+use lib.Seq.{getD-set-other}
 use Rattle.striking.specs.Groups.{join-byte, join, swapped}
 
 -- three bytes joined one after the other, the highest first, are a number joined
@@ -87,6 +88,31 @@ five-low {one} {two} {three} {four} page at n dots is p q r s t =
     five-joined page at n (p ∙ low-byte page at dots (n / 4294967296) (parts .0)) (q ∙ low-byte one (at + 1) (dots / 256) (n / 16777216) (parts .1))
     (r ∙ low-byte two (at + 2) (dots / 65536) (n / 65536) (parts .2)) (s ∙ low-byte three (at + 3) (dots / 16777216) (n / 256) (parts .3))
     (t ∙ low-byte four (at + 4) (dots / 4294967296) n (parts .4))
+
+-- two bytes of a page, read as one number, to which two of another are joined, and stored: these two are joined, the lowest first
+pub two-low : (page : List ℕ) (i dots : ℕ) → getD page i 0 < 256 → let new = bitOr (getD page i 0 + getD page (i + 1) 0 * 256) (dots % 65536) in
+    set (set page i (new % 256)) (i + 1) (new / 256) ≡ join page i 2 (swapped 2 dots 0)
+unfolding join join-byte swapped
+two-low page i dots small =
+    let x : ℕ = getD page i 0 in
+    let y : ℕ = getD page (i + 1) 0 in
+    let both : ℕ = (0 * 256 + dots % 256) * 256 + dots / 256 % 256 in
+    let new : ℕ = bitOr (x + y * 256) (dots % 65536) in
+    let once : List ℕ = set page i (bitOr x (both / 256 % 256)) in
+    let old-low : (x + y * 256) % 256 ≡ x = omega arith in
+    let old-high : (x + y * 256) / 256 ≡ y = omega arith in
+    let first : dots % 256 ≡ both / 256 % 256 = omega arith in
+    let dots-low : dots % 65536 % 256 ≡ both / 256 % 256 = mod-mod-pow dots 8 8 ∙ first in
+    let dots-high : dots % 65536 / 256 ≡ both % 256 = field dots 8 8 ∙ sym (low (0 * 256 + dots % 256) 8 (mod-lt (dots / 256) (omega arith))) in
+    let new-low : new % 256 ≡ bitOr x (both / 256 % 256) = or-mod (x + y * 256) (dots % 65536) 8 ∙ ap₂ bitOr old-low dots-low in
+    let new-high : new / 256 ≡ bitOr y (both % 256) = or-shr (x + y * 256) (dots % 65536) 8 ∙ ap₂ bitOr old-high dots-high in
+    let other : y ≡ getD once (i + 1) 0 = sym (getD-set-other page i (i + 1) (bitOr x (both / 256 % 256)) 0 (λ e. omega arith)) in
+    ap₂ (λ (v w : ℕ). set (set page i v) (i + 1) w) new-low (new-high ∙ ap (λ (v : ℕ). bitOr v (both % 256)) other)
+    ∙ ap (λ (k : ℕ). join-byte (join-byte page k (both / 256)) (i + 1) both) (sym (add-zero i))
+
+-- two bytes with two others joined are two bytes
+pub two-fit : (x y dots : ℕ) → x < 256 → y < 256 → bitOr (x + y * 256) (dots % 65536) < 65536
+two-fit x y dots h k = or-lt 16 (x + y * 256) (dots % 65536) (omega arith) (omega arith)
 
 -- byte k of a number put below those before it, and the last
 pub swap-more : (n k s all : ℕ) → k < 8 → swapped (8 - k) (n / 2 ^ (8 * k)) s ≡ all

@@ -1,22 +1,24 @@
--- Eight columns turned into nine wires: a number made of two others by masks, exclusive `or` and shifts has bits that are bits of those, and which they are
+-- Sixteen columns turned into nine wires: a number made of others by masks, exclusive `or` and shifts has bits that are bits of those, and which they are
 -- is computed.
 use Prim.Native.Nat.{ℕ, zero, suc, _+_, _-_, _*_, _/_, _%_, _^_, _≤_, _<_}
 use mathlib.Core.Bool.{Bool, true, false, cond, not, _&&_}
 use mathlib.Core.Path.{_≡_, refl, sym, ap, ap₂, _∙_, subst}
 use mathlib.Core.List.{List, [], _∷_, _++_, map}
 use native.Mathlib.Omega.{arith}
-use native.Mathlib.Nat.{add-zero, zero-add, add-mul, mul-assoc, mul-comm, div-eq-of-lt, mod-eq-of-lt, mod-one, pow-suc}
+use native.Mathlib.Nat.{add-zero, zero-add, div-eq-of-lt, mod-eq-of-lt, mod-lt}
 use native.Mathlib.Decide.{decLt}
 use lib.Dec.{T, lit<, eqb, eqb→eq, leb, leb→le, nleb→lt, ltb, ltb→lt, nltb→le}
-use lib.Pow.{pow-add, pow-mono, pow-pos, shl-shr, shr-shr, high, low, mod-pow-add}
+use lib.Pow.{pow-add, pow-mono, pow-pos, shl-shr, shr-shr, high, low}
 use lib.Bits.{bitAnd, bitOr, and-mask, and-mod, and-shr, and-zero-r, bitXor, xor-add-and, xor-comm, xor-lt, xor-mod, xor-self, xor-shr, xor-zero-l, xor-zero-r}
-use lib.ListN.{length, getD, set, take, drop, length-append, length-take, List·getD-append, List·getD-eq-default, List·getD-map}
-use lib.Seq.{drop-append-seam, drop-cons, drop-drop, getD-drop, take-add}
-use Rattle.sheet.specs.Dots.{bit, blacken-all}
+use lib.ListN.{length, getD, take, drop, length-take, List·getD-eq-default, List·getD-map}
+use lib.Seq.{drop-cons, drop-drop, take-add}
+use Rattle.sheet.specs.Dots.{bit, blacken-all, mark-if}
 use Rattle.sheet.proofs.Bits.{bit-lt}
-use Rattle.striking.specs.Groups.{any-wires, fields, ones, wire-dots, join-byte, join, side-by-side}
-use Rattle.striking.specs.Turning.{Made, front, back, masked, crossed, higher, lower, made, turn, turned, topmost}
-use Rattle.striking.proofs.Grouping.{part-at, or-none, bit-is, low-bit, moved-bit, wire-row, wire-joined}
+use Rattle.striking.specs.Groups.{any-wires, join, side-by-side, swapped}
+use Rattle.striking.specs.Turning.{Made, number, masked, crossed, higher, lower, made}
+use Rattle.striking.specs.Turning.{turn, turned, paired, differing, left, right, two-to-five, six-to-nine, topmost, fours}
+use Rattle.striking.proofs.Joining.{bit-marks, bit-marks-add, joined}
+use Rattle.striking.proofs.Grouping.{part-at, part-long, or-none, bit-is, low-bit, moved-bit, wire-row}
 
 -- a list where a bit is 1, none where it is 0
 unfoldable where-set : ℕ → List ℕ → List ℕ
@@ -32,30 +34,29 @@ unfoldable merged : List ℕ → List ℕ → List ℕ
 merged [] js = js
 merged (i ∷ is) js = toggled i (merged is js)
 
--- the bits of which bit j of the number is made: bit k of a is k, bit k of b 64 + k
+-- the bits of which bit j of the number is made: bit k of number i is 64 * i + k
 unfoldable sources : Made → ℕ → List ℕ
-sources front j = cond (ltb j 64) ((0 + j) ∷ []) []
-sources back j = cond (ltb j 64) ((64 + j) ∷ []) []
+sources (number i) j = cond (ltb j 64) ((64 * i + j) ∷ []) []
 sources (masked m x) j = where-set (bit m j) (sources x j)
 sources (crossed x y) j = merged (sources x j) (sources y j)
 sources (higher s x) j = cond (leb s j) (sources x (j - s)) []
 sources (lower s x) j = sources x (s + j)
 
--- the number whose lowest byte has the wire at bit n
+-- the number whose two lowest bytes have the wire at bit n
 unfoldable wires-made : List Made
 wires-made =
-    lower 56 turned ∷ lower 40 turned ∷ lower 24 turned ∷ lower 8 turned ∷ lower 48 turned ∷ lower 32 turned
-    ∷ lower 16 turned ∷ turned ∷ topmost ∷ []
+    lower 48 six-to-nine ∷ lower 32 six-to-nine ∷ lower 16 six-to-nine ∷ six-to-nine ∷ lower 48 two-to-five ∷ lower 32 two-to-five
+    ∷ lower 16 two-to-five ∷ two-to-five ∷ topmost ∷ []
 
 unfoldable wire-made : ℕ → Made
-wire-made n = getD wires-made n front
+wire-made n = getD wires-made n (number 0)
 
--- that number, as it is taken of wire 1 and of the eight others turned
-unfoldable pub wire-number : ℕ → ℕ → ℕ → ℕ
-wire-number top wires n =
+-- that number, as it is taken of wire 1, of wires 2 to 5 and of wires 6 to 9
+unfoldable pub wire-number : ℕ → ℕ → ℕ → ℕ → ℕ
+wire-number top upper below n =
     getD
-    (wires / 0x100000000000000 ∷ wires / 0x10000000000 ∷ wires / 0x1000000 ∷ wires / 0x100 ∷ wires / 0x1000000000000 ∷ wires / 0x100000000
-    ∷ wires / 0x10000 ∷ wires ∷ top ∷ []) n 0
+    (below / 0x1000000000000 ∷ below / 0x100000000 ∷ below / 0x10000 ∷ below ∷ upper / 0x1000000000000 ∷ upper / 0x100000000
+    ∷ upper / 0x10000 ∷ upper ∷ top ∷ []) n 0
 
 -- within a list it does not matter what is read behind it
 inside : (l : List ℕ) (d e n : ℕ) → n < length l → getD l n d ≡ getD l n e
@@ -63,11 +64,15 @@ inside [] d e n h = absurd (omega arith)
 inside (x ∷ l) d e zero h = refl
 inside (x ∷ l) d e (suc n) h = inside l d e n (omega arith)
 
-so-made : (a b n : ℕ) → n < 9 → wire-number (made a b topmost) (made a b turned) n ≡ made a b (wire-made n)
+so-made : (ns : List ℕ) (n : ℕ) → n < 9 → wire-number (made ns topmost) (made ns two-to-five) (made ns six-to-nine) n ≡ made ns (wire-made n)
 unfolding wire-number wire-made wires-made made
-so-made a b n h = inside (map (made a b) wires-made) 0 a n h ∙ List·getD-map (made a b) wires-made n front
+so-made ns n h = inside (map (made ns) wires-made) 0 (getD ns 0 0) n h ∙ List·getD-map (made ns) wires-made n (number 0)
 
--- Whether bit 7 - k of that number is bit n of column k alone, for each of nine wires and eight columns.
+-- the bit of that number that column k has: in byte k / 8, the first of eight columns highest
+abbrev bit-of : ℕ → ℕ
+bit-of k = k / 8 * 8 + (7 - k % 8)
+
+-- Whether that bit is bit n of column k alone, for each of nine wires and sixteen columns.
 unfoldable lone : ℕ → List ℕ → Bool
 lone i [] = false
 lone i (j ∷ []) = eqb j i
@@ -90,8 +95,8 @@ all-true (suc n) p h k l = go (decLt k n) (all-true n p (both (p n) (all-below n
     go (yes m) others = others m
     go (no m) others = subst (λ (i : ℕ). T (p i)) (omega arith) (both (p n) (all-below n p) h .0)
 
-each-lone : T (all-below 9 (λ n. all-below 8 (λ k. lone (16 * k + n) (sources (wire-made n) (7 - k)))))
-unfolding sources merged toggled where-set bit all-below lone wire-made wires-made topmost turned turn
+each-lone : T (all-below 9 (λ n. all-below 16 (λ k. lone (16 * k + n) (sources (wire-made n) (bit-of k)))))
+unfolding sources merged toggled where-set bit all-below lone wire-made wires-made topmost two-to-five six-to-nine left right differing paired turned turn
 each-lone = tt
 
 -- the bits of 0
@@ -103,6 +108,13 @@ no-bit k = ap (λ (n : ℕ). n % 2) (div-eq-of-lt (pow-pos k))
 above : (n m k : ℕ) → m < 2 ^ n → n ≤ k → bit m k ≡ 0
 unfolding bit
 above n m k l h = ap (λ (x : ℕ). x % 2) (div-eq-of-lt (omega (arith, pow-mono {i = n} {j = k} h)))
+
+-- the bits of a number's lowest byte
+byte-bit : (n k : ℕ) → k < 8 → bit (n % 256) k ≡ bit n k
+byte-bit n k h =
+    let j : ℕ = 7 - k in
+    let whole : suc j + k ≡ 8 = omega arith in
+    sym (low-bit n k j ∙ ap (λ (m : ℕ). bit (n % 2 ^ m) k) whole)
 
 -- the bits of a number with a field of s bits below it: those of the field, and then its own
 bit-below : (n x s k : ℕ) → x < 2 ^ s → k < s → bit (n * 2 ^ s + x) k ≡ bit x k
@@ -178,8 +190,8 @@ cross-three x y z h k l =
     ∙ ap (λ (v : ℕ). (x + v) % 2) (sym (cross-two y z k l))
     ∙ sym (cross-two x (bitXor y z) h (xor-lt 1 y z k l))
 
-module _ (a b : ℕ) (a-fits : a < 2 ^ 64) (b-fits : b < 2 ^ 64) (source : ℕ → ℕ) (digit : (i : ℕ) → source i < 2)
-    (one : (j : ℕ) → j < 64 → bit a j ≡ source (0 + j)) (two : (j : ℕ) → j < 64 → bit b j ≡ source (64 + j)) where
+module _ (ns : List ℕ) (fit : (i : ℕ) → getD ns i 0 < 2 ^ 64) (source : ℕ → ℕ) (digit : (i : ℕ) → source i < 2)
+    (is : (i j : ℕ) → j < 64 → bit (getD ns i 0) j ≡ source (64 * i + j)) where
   -- some sources, crossed
   unfoldable all-of : List ℕ → ℕ
   all-of [] = 0
@@ -231,12 +243,12 @@ module _ (a b : ℕ) (a-fits : a < 2 ^ 64) (b-fits : b < 2 ^ 64) (source : ℕ �
   chosen true v l some none = some tt
   chosen false v l some none = none tt
 
-  -- bit j of one of the two numbers, whose bit k is source n + k
-  whole : (m n j : ℕ) → m < 2 ^ 64 → ((k : ℕ) → k < 64 → bit m k ≡ source (n + k)) → bit m j ≡ all-of (cond (ltb j 64) ((n + j) ∷ []) [])
+  -- bit j of one of the numbers
+  whole : (i j : ℕ) → bit (getD ns i 0) j ≡ all-of (cond (ltb j 64) ((64 * i + j) ∷ []) [])
   unfolding all-of
-  whole m n j fits is =
-      chosen (ltb j 64) (bit m j) ((n + j) ∷ []) (λ h. is j (ltb→lt j 64 h) ∙ sym (xor-zero-r (source (n + j))))
-      (λ h. above 64 m j fits (nltb→le j 64 h))
+  whole i j =
+      chosen (ltb j 64) (bit (getD ns i 0) j) ((64 * i + j) ∷ []) (λ h. is i j (ltb→lt j 64 h) ∙ sym (xor-zero-r (source (64 * i + j))))
+      (λ h. above 64 (getD ns i 0) j (fit i) (nltb→le j 64 h))
 
   -- a bit under a bit of a mask
   under-mask : (v m : ℕ) (l : List ℕ) → v < 2 → m < 2 → v ≡ all-of l → bitAnd v m ≡ all-of (where-set m l)
@@ -246,17 +258,16 @@ module _ (a b : ℕ) (a-fits : a < 2 ^ 64) (b-fits : b < 2 ^ 64) (source : ℕ �
   under-mask v (suc (suc m)) l h k e = absurd (omega arith)
 
   -- each bit of a made number is its sources, crossed
-  made-bit : (x : Made) (j : ℕ) → bit (made a b x) j ≡ all-of (sources x j)
+  made-bit : (x : Made) (j : ℕ) → bit (made ns x) j ≡ all-of (sources x j)
   unfolding made sources
-  made-bit front j = whole a 0 j a-fits one
-  made-bit back j = whole b 64 j b-fits two
-  made-bit (masked m x) j = bit-masked (made a b x) m j ∙ under-mask (bit (made a b x) j) (bit m j) (sources x j) (bit-lt _ j) (bit-lt m j) (made-bit x j)
+  made-bit (number i) j = whole i j
+  made-bit (masked m x) j = bit-masked (made ns x) m j ∙ under-mask (bit (made ns x) j) (bit m j) (sources x j) (bit-lt _ j) (bit-lt m j) (made-bit x j)
   made-bit (crossed x y) j =
-      bit-crossed (made a b x) (made a b y) j ∙ ap₂ bitXor (made-bit x j) (made-bit y j) ∙ all-merged (sources x j) (sources y j)
+      bit-crossed (made ns x) (made ns y) j ∙ ap₂ bitXor (made-bit x j) (made-bit y j) ∙ all-merged (sources x j) (sources y j)
   made-bit (higher s x) j =
-      chosen (leb s j) (bit (made a b x * 2 ^ s) j) (sources x (j - s)) (λ h. bit-higher (made a b x) s j (leb→le s j h) ∙ made-bit x (j - s))
-      (λ h. bit-under (made a b x) s j (nleb→lt s j h))
-  made-bit (lower s x) j = moved-bit (made a b x) s j ∙ made-bit x (s + j)
+      chosen (leb s j) (bit (made ns x * 2 ^ s) j) (sources x (j - s)) (λ h. bit-higher (made ns x) s j (leb→le s j h) ∙ made-bit x (j - s))
+      (λ h. bit-under (made ns x) s j (nleb→lt s j h))
+  made-bit (lower s x) j = moved-bit (made ns x) s j ∙ made-bit x (s + j)
 
   lone-source : (i : ℕ) (l : List ℕ) → T (lone i l) → all-of l ≡ source i
   unfolding lone all-of
@@ -264,12 +275,12 @@ module _ (a b : ℕ) (a-fits : a < 2 ^ 64) (b-fits : b < 2 ^ 64) (source : ℕ �
   lone-source i (j ∷ []) h = xor-zero-r (source j) ∙ ap source (eqb→eq j i h)
   lone-source i (j ∷ k ∷ js) h = absurd h
 
-  -- bit 7 - k of the number for wire n is bit n of column k, the sources being the columns' bits, sixteen each
-  wire-bit : (n k : ℕ) → n < 9 → k < 8 → bit (made a b (wire-made n)) (7 - k) ≡ source (16 * k + n)
+  -- the bit that column k has of the number for wire n is bit n of the column, the sources being the columns' bits, sixteen each
+  wire-bit : (n k : ℕ) → n < 9 → k < 16 → bit (made ns (wire-made n)) (bit-of k) ≡ source (16 * k + n)
   wire-bit n k h l =
-      let row = all-true 9 (λ (n : ℕ). all-below 8 (λ k. lone (16 * k + n) (sources (wire-made n) (7 - k)))) each-lone n h in
-      made-bit (wire-made n) (7 - k)
-      ∙ lone-source (16 * k + n) (sources (wire-made n) (7 - k)) (all-true 8 (λ (k : ℕ). lone (16 * k + n) (sources (wire-made n) (7 - k))) row k l)
+      let row = all-true 9 (λ (n : ℕ). all-below 16 (λ k. lone (16 * k + n) (sources (wire-made n) (bit-of k)))) each-lone n h in
+      made-bit (wire-made n) (bit-of k)
+      ∙ lone-source (16 * k + n) (sources (wire-made n) (bit-of k)) (all-true 16 (λ (k : ℕ). lone (16 * k + n) (sources (wire-made n) (bit-of k))) row k l)
 
 -- some columns side by side take sixteen bits each
 side-fits : (columns : List ℕ) → Small columns → side-by-side columns < 2 ^ (16 * length columns)
@@ -304,84 +315,124 @@ pub four-beside : (line : List ℕ) (c : ℕ) → c + 4 ≤ length line
 unfolding side-by-side
 four-beside line c inside = omega arith ∙ ap side-by-side (sym (four-of line c inside))
 
--- the bits from bit m - 1 down to bit 0 of a number, if they are bit n of m columns, are the fields of one bit of these
-bits-fields : (w n : ℕ) (columns : List ℕ) (f : ℕ) → ((k : ℕ) → k < length columns → bit w (length columns - suc k) ≡ bit (getD columns k 0) n)
-    → fields 2 n columns f ≡ f * 2 ^ length columns + w % 2 ^ length columns
-unfolding fields
-bits-fields w n [] f is = omega (arith, mod-one w)
-bits-fields w n (x ∷ columns) f is =
+-- the dots of a number's lowest bits, if these from the highest on are bit n of some columns, are the dots of that wire
+marks-wire : (w n d : ℕ) (columns : List ℕ) → ((k : ℕ) → k < length columns → bit w (length columns - suc k) ≡ bit (getD columns k 0) n)
+    → bit-marks d (length columns) w [] ≡ wire-row n columns d 1
+unfolding bit-marks wire-row
+marks-wire w n d [] is = refl
+marks-wire w n d (x ∷ columns) is =
     let m : ℕ = length columns in
-    let b : ℕ = x / 2 ^ n % 2 in
+    let more : length (x ∷ columns) ≡ m + 1 = omega arith in
     let last : m ≡ length (x ∷ columns) - 1 = omega arith in
-    let top : w / 2 ^ m % 2 ≡ b = bit-is w m ∙ ap (bit w) last ∙ is 0 (omega arith) ∙ sym (bit-is x n) in
-    let more : w % 2 ^ suc m ≡ w / 2 ^ m % 2 * 2 ^ m + w % 2 ^ m = ap (λ (k : ℕ). w % 2 ^ k) (omega arith) ∙ mod-pow-add w 1 m in
-    let spread : (f * 2 + b) * 2 ^ m ≡ f * 2 ^ suc m + b * 2 ^ m =
-    add-mul (f * 2) b (2 ^ m)
-    ∙ ap (λ (v : ℕ). v + b * 2 ^ m) (mul-assoc f 2 (2 ^ m) ∙ ap (λ (v : ℕ). f * v) (mul-comm 2 (2 ^ m) ∙ sym (pow-suc 2 m))) in
-    bits-fields w n columns (f * 2 + b) (λ k h. ap (bit w) (omega arith) ∙ is (suc k) (omega arith))
-    ∙ omega (arith, more, spread, ap (λ (v : ℕ). v * 2 ^ m) top)
+    let top : w / 2 ^ m % 2 ≡ bit x n = bit-is w m ∙ ap (bit w) last ∙ is 0 (omega arith) in
+    ap (λ (k : ℕ). bit-marks d k w []) more
+    ∙ bit-marks-add d m 1 w []
+    ∙ ap₂ (λ (b k : ℕ). mark-if b k (bit-marks (d + 1) m w [])) top (add-zero d)
+    ∙ ap (mark-if (bit x n) d) (marks-wire w n (d + 1) columns (λ k h. ap (bit w) (omega arith) ∙ is (suc k) (omega arith)))
 
--- a byte whose bits from the highest on are bit n of eight columns, joined to a page, strikes that wire
-byte-strikes : (before columns : List ℕ) (i n w : ℕ) → length columns ≡ 8 → ((k : ℕ) → k < 8 → bit w (7 - k) ≡ bit (getD columns k 0) n)
-    → join before i 1 w ≡ blacken-all before (wire-row n columns (i * 8) 1)
-unfolding join join-byte wire-dots ones
-byte-strikes before columns i n w eight is =
-    let f : ℕ = fields 2 n columns 0 in
-    let same : f ≡ w % 256 =
-    bits-fields w n columns 0 (λ k h. ap (bit w) (omega arith) ∙ is k (omega arith)) ∙ ap (λ (m : ℕ). 0 * 2 ^ m + w % 2 ^ m) eight ∙ omega arith in
-    let alone : wire-dots 2 f 0 % 256 ≡ w % 256 = ap (λ (v : ℕ). v * 1 % 256) (and-mask (f / 1) 8) ∙ omega arith in
-    ap (λ (v : ℕ). set before (i + 0) (bitOr (getD before (i + 0) 0) v)) (sym alone)
-    ∙ wire-joined before columns i 0 n 0 f eight (lit< tt) refl
-    ∙ ap (λ (k : ℕ). blacken-all before (wire-row k columns (i * 8) 1)) (add-zero n)
+-- a number's two lowest bytes in the other order: its bits from the highest on
+swapped-bit : (w k : ℕ) → k < 16 → bit (swapped 2 w 0) (15 - k) ≡ bit w (bit-of k)
+unfolding swapped
+swapped-bit w k h = go (decLt k 8)
+  where
+    first : ℕ
+    first = 0 * 256 + w % 256
 
--- Eight columns, four and four.
-module _ (xs ys : List ℕ) (x-four : length xs ≡ 4) (y-four : length ys ≡ 4) (x-small : Small xs) (y-small : Small ys) where
-  -- bit i % 16 of column i / 16
-  source-of : ℕ → ℕ
-  source-of i = bit (getD (xs ++ ys) (i / 16) 0) (i % 16)
+    second : ℕ
+    second = w / 256 % 256
 
-  one-of : (j : ℕ) → j < 64 → bit (side-by-side xs) j ≡ source-of (0 + j)
-  unfolding source-of
-  one-of j h =
-      side-bit xs x-small j
-      ∙ ap (λ (x : ℕ). bit x (j % 16)) (sym (List·getD-append xs ys 0 (j / 16) (omega arith)))
-      ∙ ap (λ (i : ℕ). bit (getD (xs ++ ys) (i / 16) 0) (i % 16)) (sym (zero-add j))
+    go : Dec (k < 8) → bit (first * 256 + second) (15 - k) ≡ bit w (bit-of k)
+    go (yes l) =
+        ap (bit (first * 256 + second)) (omega arith)
+        ∙ bit-past first second 8 (7 - k) (mod-lt (w / 256) (omega arith))
+        ∙ ap (λ (v : ℕ). bit v (7 - k)) (zero-add (w % 256))
+        ∙ byte-bit w (7 - k) (omega arith)
+        ∙ ap (bit w) (omega arith)
+    go (no l) =
+        bit-below first second 8 (15 - k) (mod-lt (w / 256) (omega arith)) (omega arith)
+        ∙ byte-bit (w / 256) (15 - k) (omega arith)
+        ∙ moved-bit w 8 (15 - k)
+        ∙ ap (bit w) (omega arith)
 
-  two-of : (j : ℕ) → j < 64 → bit (side-by-side ys) j ≡ source-of (64 + j)
-  unfolding source-of
-  two-of j h =
-      let column : length xs + j / 16 ≡ (64 + j) / 16 = omega arith in
-      let same : j % 16 ≡ (64 + j) % 16 = omega arith in
-      side-bit ys y-small j
-      ∙ ap (λ (l : List ℕ). bit (getD l (j / 16) 0) (j % 16)) (sym (drop-append-seam xs ys))
-      ∙ ap (λ (x : ℕ). bit x (j % 16)) (getD-drop (length xs) (xs ++ ys) (j / 16) 0)
-      ∙ ap₂ (λ (k i : ℕ). bit (getD (xs ++ ys) k 0) i) column same
-
-  -- the number for each wire strikes it
-  pub wires-strike : let top = made (side-by-side xs) (side-by-side ys) topmost in let wires = made (side-by-side xs) (side-by-side ys) turned in
-      (before : List ℕ) (i n : ℕ) → n < 9 → join before i 1 (wire-number top wires n) ≡ blacken-all before (wire-row n (xs ++ ys) (i * 8) 1)
-  unfolding source-of
-  wires-strike before i n h =
-      let a : ℕ = side-by-side xs in
-      let b : ℕ = side-by-side ys in
-      let a-fits : a < 2 ^ 64 = omega (arith, side-fits xs x-small, ap (λ (m : ℕ). 2 ^ (16 * m)) x-four) in
-      let b-fits : b < 2 ^ 64 = omega (arith, side-fits ys y-small, ap (λ (m : ℕ). 2 ^ (16 * m)) y-four) in
-      let eight : length (xs ++ ys) ≡ 8 = omega (arith, length-append xs ys) in
-      ap (join before i 1) (so-made a b n h)
-      ∙ byte-strikes before (xs ++ ys) i n (made a b (wire-made n)) eight
-      (λ k l. wire-bit a b a-fits b-fits source-of (λ i. bit-lt _ _) one-of two-of n k h l
-      ∙ ap₂ (λ (c j : ℕ). bit (getD (xs ++ ys) c 0) j) (omega arith) (omega arith))
+-- two bytes with bit n of sixteen columns, joined to a page, strike that wire
+pair-strikes : (before columns : List ℕ) (i n w : ℕ) → length columns ≡ 16 → ((k : ℕ) → k < 16 → bit w (bit-of k) ≡ bit (getD columns k 0) n)
+    → join before i 2 (swapped 2 w 0) ≡ blacken-all before (wire-row n columns (i * 8) 1)
+pair-strikes before columns i n w sixteen is =
+    joined before i 2 (swapped 2 w 0)
+    ∙ ap (λ (m : ℕ). blacken-all before (bit-marks (i * 8) m (swapped 2 w 0) [])) (sym sixteen)
+    ∙ ap (blacken-all before)
+    (marks-wire (swapped 2 w 0) n (i * 8) columns
+    (λ k h. ap (bit (swapped 2 w 0)) (omega arith) ∙ swapped-bit w k (omega arith) ∙ is k (omega arith)))
 
 -- the part of a line of small numbers that begins at column c
-pub small-part : (line : List ℕ) (c n : ℕ) → Small line → Small (take n (drop c line))
+small-part : (line : List ℕ) (c n : ℕ) → Small line → Small (take n (drop c line))
 small-part line c n small k = go (decLt k n)
   where
     go : Dec (k < n) → getD (take n (drop c line)) k 0 < 2 ^ 16
     go (yes h) = omega (arith, small (c + k), part-at line c n k h)
     go (no h) = omega (arith, List·getD-eq-default (take n (drop c line)) 0 {n = k} (omega (arith, length-take n (drop c line))))
 
+-- the sixteen columns of a line from column c on
+module _ (line : List ℕ) (c : ℕ) (inside-line : c + 16 ≤ length line) (small : Small line) where
+  -- bit i % 16 of column i / 16 of them
+  unfoldable source-of : ℕ → ℕ
+  source-of i = bit (getD (take 16 (drop c line)) (i / 16) 0) (i % 16)
+
+  -- four columns from column c + k on, side by side, fit a number of 64 bits, and its bits are theirs
+  four-fit : (k : ℕ) → side-by-side (take 4 (drop k line)) < 2 ^ 64
+  four-fit k =
+      let some : List ℕ = take 4 (drop k line) in
+      let most : 2 ^ (16 * length some) ≤ 2 ^ 64 = pow-mono {j = 64} (omega (arith, length-take 4 (drop k line))) in
+      omega (arith, side-fits some (small-part line k 4 small), most)
+
+  four-bit : (i k j : ℕ) → i < 4 → k ≡ c + 4 * i → j < 64 → bit (side-by-side (take 4 (drop k line))) j ≡ source-of (64 * i + j)
+  unfolding source-of
+  four-bit i k j few place h =
+      let column : k + j / 16 ≡ c + (64 * i + j) / 16 = omega arith in
+      let same : j % 16 ≡ (64 * i + j) % 16 = omega arith in
+      side-bit (take 4 (drop k line)) (small-part line k 4 small) j
+      ∙ ap (λ (x : ℕ). bit x (j % 16)) (part-at line k 4 (j / 16) (omega arith))
+      ∙ ap₂ (λ (m b : ℕ). bit (getD line m 0) b) column same
+      ∙ ap (λ (x : ℕ). bit x ((64 * i + j) % 16)) (sym (part-at line c 16 ((64 * i + j) / 16) (omega arith)))
+
+  -- so it is with each of the four numbers, and past them there are no bits
+  fours-fit : (i : ℕ) → getD (fours line c) i 0 < 2 ^ 64
+  unfolding fours
+  fours-fit zero = four-fit c
+  fours-fit (suc zero) = four-fit (c + 4)
+  fours-fit (suc (suc zero)) = four-fit (c + 8)
+  fours-fit (suc (suc (suc zero))) = four-fit (c + 12)
+  fours-fit (suc (suc (suc (suc i)))) = lit< tt
+
+  fours-bit : (i j : ℕ) → j < 64 → bit (getD (fours line c) i 0) j ≡ source-of (64 * i + j)
+  unfolding fours source-of
+  fours-bit zero j h = four-bit 0 c j (lit< tt) (omega arith) h
+  fours-bit (suc zero) j h = four-bit 1 (c + 4) j (lit< tt) (omega arith) h
+  fours-bit (suc (suc zero)) j h = four-bit 2 (c + 8) j (lit< tt) (omega arith) h
+  fours-bit (suc (suc (suc zero))) j h = four-bit 3 (c + 12) j (lit< tt) (omega arith) h
+  fours-bit (suc (suc (suc (suc i)))) j h =
+      let n : ℕ = 64 * suc (suc (suc (suc i))) + j in
+      no-bit j
+      ∙ sym (no-bit (n % 16))
+      ∙ ap (λ (x : ℕ). bit x (n % 16))
+      (sym (List·getD-eq-default (take 16 (drop c line)) 0 {n = n / 16} (omega (arith, length-take 16 (drop c line)))))
+
+  -- the two lowest bytes of the number for each wire strike it
+  pub wires-strike : let ns = fours line c in
+      (before : List ℕ) (i n : ℕ) → n < 9
+      → join before i 2 (swapped 2 (wire-number (made ns topmost) (made ns two-to-five) (made ns six-to-nine) n) 0)
+      ≡ blacken-all before (wire-row n (take 16 (drop c line)) (i * 8) 1)
+  unfolding source-of
+  wires-strike before i n h =
+      let ns : List ℕ = fours line c in
+      let w : ℕ = made ns (wire-made n) in
+      ap (λ (v : ℕ). join before i 2 (swapped 2 v 0)) (so-made ns n h)
+      ∙ pair-strikes before (take 16 (drop c line)) i n w (part-long line c 16 inside-line)
+      (λ k l. wire-bit ns fours-fit source-of (λ m. bit-lt _ _) fours-bit n k h l
+      ∙ ap₂ (λ (m j : ℕ). bit (getD (take 16 (drop c line)) m 0) j) (omega arith) (omega arith))
+
 -- eight columns of a line are four and the four after them
-pub eight-parts : (line : List ℕ) (c : ℕ) → take 8 (drop c line) ≡ take 4 (drop c line) ++ take 4 (drop (c + 4) line)
+eight-parts : (line : List ℕ) (c : ℕ) → take 8 (drop c line) ≡ take 4 (drop c line) ++ take 4 (drop (c + 4) line)
 eight-parts line c = take-add 4 4 (drop c line) ∙ ap (λ (l : List ℕ). take 4 (drop c line) ++ take 4 l) (drop-drop 4 c line)
 
 -- columns side by side in a number that is 0 have no wire

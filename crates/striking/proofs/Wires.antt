@@ -1,16 +1,16 @@
--- The nine wires of eight columns, joined to a page one after the other, each a row below the one before.
+-- The nine wires of some columns, joined to a page one after the other, each a row below the one before.
 use Prim.Native.Nat.{ℕ, zero, suc, _+_, _-_, _*_, _/_, _%_, _^_, _<_}
 use mathlib.Core.Path.{_≡_, refl, sym, ap, ap₂, _∙_}
 use mathlib.Core.List.{List, [], _∷_}
 use native.Mathlib.Omega.{arith}
-use native.Mathlib.Nat.{add-zero, zero-add, mod-lt, div-add-mod', div-lt-iff-lt-mul}
+use native.Mathlib.Nat.{zero-add, mod-lt, div-add-mod', div-lt-iff-lt-mul}
 use lib.ListN.{length, getD}
 use Rattle.sheet.specs.declared.Pitch.{Pitch}
 use Rattle.sheet.specs.declared.Pitch.the-variants.{Normal, Compressed}
 use Rattle.sheet.specs.declared.Row.{Row}
 use Rattle.sheet.specs.Edition.{Edition, apart-by, lp2}
 use Rattle.sheet.specs.Dots.{blacken-all, dot-at, line-marks}
-use Rattle.striking.specs.Groups.{fields, wire-dots, join-byte, join}
+use Rattle.striking.specs.Groups.{fields, wire-dots, join}
 use Rattle.sheet.proofs.Blackening.{blacken-all-append}
 use Rattle.striking.proofs.Joining.{length-join}
 use Rattle.striking.proofs.Grouping.{wire-row, wire-joined, rows, rows-line}
@@ -30,11 +30,6 @@ row-is e at (suc n) = refl
 unfoldable pub wired : Edition → ℕ → (ℕ → ℕ) → ℕ → List ℕ → ℕ → List ℕ
 wired e m dots at page zero = page
 wired e m dots at page (suc n) = join (wired e m dots at page n) (row-at e at n) m (dots (8 - n))
-
--- a byte joined is one byte of a number joined
-pub one-joined : (page : List ℕ) (i dots : ℕ) → join-byte page i dots ≡ join page i 1 dots
-unfolding join
-one-joined page i dots = ap (λ (k : ℕ). join-byte page k dots) (sym (add-zero i))
 
 module _ (e : Edition) (m : ℕ) (dots : ℕ → ℕ) (at : ℕ) (page : List ℕ) where
   -- one wire more

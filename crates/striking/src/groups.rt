@@ -44,7 +44,7 @@ fn fields(line: &[u16], c: usize, base: u64, skip: u32) -> u64
 }
 
 // Joins the lowest byte of `dots` to byte i of the page.
-pub(crate) fn join_byte(page: &mut [u8], i: usize, dots: u64)
+fn join_byte(page: &mut [u8], i: usize, dots: u64)
     requires { ⌜ i < length (now page) ⌝ }
     ensures { λ _. ⌜ now (page .exit) ≡ join-byte (now (page .entry)) i dots ⌝ }
 {

@@ -1,19 +1,18 @@
-// Striking a line of the 6215 eight positions at a time. The line store has a number for each grid position, so that eight positions are one byte
-// of a row: eight columns are turned into nine bytes, one for each wire. Most positions are empty, since a column takes 5 or 3 and stands at the
-// first, and past the end of the text all are: eighty empty ones are passed over at once.
+// Striking a line of the 6215 sixteen positions at a time. The line store has a number for each grid position, so that sixteen positions are two bytes
+// of a row: sixteen columns are turned into nine pairs of bytes, one for each wire. Most positions are empty, since a column takes 5 or 3 and stands
+// at the first, and past the end of the text all are: eighty empty ones are passed over at once.
 ghost use Prim.Native.Nat.{ℕ, _+_, _*_, _%_, _^_, _≤_, _<_};
 ghost use mathlib.Core.Path.{_≡_};
-ghost use mathlib.Core.List.{List, _++_};
+ghost use mathlib.Core.List.{List, [], _∷_};
 ghost use lib.ListN.{length, take, drop, getD};
 ghost use Rattle.sheet.specs.declared.Pitch.{Pitch};
 ghost use Rattle.sheet.specs.declared.Row.{Row};
 ghost use Rattle.sheet.specs.Edition.{dg6215};
 ghost use Rattle.sheet.specs.Dots.{blacken-all, dot-at, line-marks};
-ghost use Rattle.striking.specs.Groups.{any-wires, side-by-side};
-ghost use Rattle.striking.specs.Turning.{front, made, turn, turned, topmost};
+ghost use Rattle.striking.specs.Groups.{any-wires, join, swapped};
+ghost use Rattle.striking.specs.Turning.{number, made, turn, turned, paired, differing, two-to-five, six-to-nine, topmost, fours};
 ghost use Rattle.striking.specs.Room.{Room};
 use crate::groups::four;
-use crate::groups::join_byte;
 use sheet::Model;
 use sheet::Pitch;
 use sheet::Row;
@@ -24,63 +23,113 @@ use sheet::sizes::grid;
 // Exchanges bits of a number: those that `moved` names and those `up` times as high.
 fn exchanged(f: u64, moved: u64, up: u64) -> u64
     requires { ⌜ (1 ≤ up) × (moved * up < 2 ^ 64) ⌝ }
-    ensures { λ r. ⌜ ((s : ℕ) → up ≡ 2 ^ s → r ≡ made f 0 (turn moved s front)) ⌝ }
+    ensures { λ r. ⌜ ((s : ℕ) → up ≡ 2 ^ s → r ≡ made (f ∷ []) (turn moved s (number 0))) ⌝ }
 {
     let differing = (f ^ (f / up)) & moved;
     f ^ differing ^ (differing * up)
 }
 
-// The eight lowest wires of eight columns, four of which stand side by side in each number: a byte for each wire, the first column's bit highest.
-// From the lowest byte on these are wires 2, 6, 3, 7, 4, 8, 5 and 9.
-fn turned(first: u64, second: u64) -> u64
-    ensures { λ r. ⌜ r ≡ made first second turned ⌝ }
+// The eight lowest wires of four columns and of the four that stand eight further on: a byte for each column, below that of the column eight
+// further on.
+fn paired(four: u64, further: u64) -> u64
+    ensures { λ r. ⌜ r ≡ made (four ∷ further ∷ []) (paired (number 0) (number 1)) ⌝ }
 {
-    let eight = (first & 0x00FF00FF00FF00FF) ^ ((second & 0x00FF00FF00FF00FF) * 0x100);
-    let once = exchanged(eight, 0x000F000F000F000F, 0x1000);
-    let twice = exchanged(once, 0x0000000033333333, 0x400000000);
-    exchanged(twice, 0x0000555500005555, 0x20000)
+    (four & 0x00FF00FF00FF00FF) ^ ((further & 0x00FF00FF00FF00FF) * 0x100)
 }
 
-// Wire 1 of eight columns, four of which stand side by side in each number: in the lowest byte, the first column's bit highest.
-fn topmost(first: u64, second: u64) -> u64
-    ensures { λ r. ⌜ r ≡ made first second topmost ⌝ }
+// Where the lower half of each byte of `left`, wires 6 to 9, differs from the higher half of that of `right`, wires 2 to 5.
+fn differing(left: u64, right: u64) -> u64
+    ensures { λ r. ⌜ r ≡ made (left ∷ right ∷ []) (differing (number 0) (number 1)) ⌝ }
 {
-    let apart = (((first / 0x100) & 0x0001000100010001) * 0x80)
-        ^ (((second / 0x100) & 0x0001000100010001) * 0x8);
+    (left ^ (right / 0x10)) & 0x0F0F0F0F0F0F0F0F
+}
+
+// Four wires of sixteen columns, each column's side by side, turned: each wire's side by side, the wire of the highest bits lowest.
+fn turned(wires: u64) -> u64
+    ensures { λ r. ⌜ r ≡ made (wires ∷ []) (turned (number 0)) ⌝ }
+{
+    let once = exchanged(wires, 0x0000000033333333, 0x400000000);
+    exchanged(once, 0x0000555500005555, 0x20000)
+}
+
+// Wires 2 to 5 of sixteen columns, four of which stand side by side in each number: two bytes for each wire, wire 2 lowest. Of a wire's bytes the
+// lower one has the first eight columns, the first column's bit highest.
+fn two_to_five(first: u64, second: u64, third: u64, fourth: u64) -> u64
+    ensures { λ r. ⌜ r ≡ made (first ∷ second ∷ third ∷ fourth ∷ []) two-to-five ⌝ }
+{
+    let left = paired(first, third);
+    let right = paired(second, fourth);
+    turned(left ^ differing(left, right))
+}
+
+// Wires 6 to 9 of sixteen columns, four of which stand side by side in each number, as wires 2 to 5 are given.
+fn six_to_nine(first: u64, second: u64, third: u64, fourth: u64) -> u64
+    ensures { λ r. ⌜ r ≡ made (first ∷ second ∷ third ∷ fourth ∷ []) six-to-nine ⌝ }
+{
+    let left = paired(first, third);
+    let right = paired(second, fourth);
+    turned(right ^ (differing(left, right) * 0x10))
+}
+
+// Wire 1 of sixteen columns, four of which stand side by side in each number: in the two lowest bytes, the lower one with the first eight columns,
+// the first column's bit highest.
+fn topmost(first: u64, second: u64, third: u64, fourth: u64) -> u64
+    ensures { λ r. ⌜ r ≡ made (first ∷ second ∷ third ∷ fourth ∷ []) topmost ⌝ }
+{
+    let apart = ((first & 0x0100010001000100) / 0x2)
+        ^ ((second & 0x0100010001000100) / 0x20)
+        ^ ((third & 0x0100010001000100) * 0x80)
+        ^ ((fourth & 0x0100010001000100) * 0x8);
     let near = apart ^ (apart / 0x20000);
     near ^ (near / 0x400000000)
 }
 
-// Strikes the nine wires of eight columns, each a row below the one before: wire 1 is in `top`, the others in `wires`.
-fn nine_wires(page: &mut [u8], at: usize, top: u64, wires: u64)
-    requires { ⌜ at + 6801 ≤ length (now page) ⌝ }
-    ensures { λ _. ⌜ ((xs ys : List ℕ) (pitch : Pitch) (r : Row) (c : ℕ) → length xs ≡ 4 → length ys ≡ 4
-        → ((k : ℕ) → getD xs k 0 < 2 ^ 16) → ((k : ℕ) → getD ys k 0 < 2 ^ 16)
-        → top ≡ made (side-by-side xs) (side-by-side ys) topmost → wires ≡ made (side-by-side xs) (side-by-side ys) turned
-        → at * 8 ≡ dot-at dg6215 r (dg6215 .grid pitch c)
-        → now (page .exit) ≡ blacken-all (now (page .entry)) (line-marks dg6215 (xs ++ ys) pitch r c)) ⌝ }
+// Joins the two lowest bytes of `dots` to bytes i and i + 1 of the page, the lowest first. They are read and stored as one number, so that the
+// compiler joins both at once.
+fn join_two(page: &mut [u8], i: usize, dots: u64)
+    requires { ⌜ i + 2 ≤ length (now page) ⌝ }
+    ensures { λ _. ⌜ now (page .exit) ≡ join (now (page .entry)) i 2 (swapped 2 dots 0) ⌝ }
 {
-    join_byte(page, at, top);
-    join_byte(page, at + DG6215_ROW_BYTES, wires);
-    join_byte(page, at + 2 * DG6215_ROW_BYTES, wires / 0x10000);
-    join_byte(page, at + 3 * DG6215_ROW_BYTES, wires / 0x100000000);
-    join_byte(page, at + 4 * DG6215_ROW_BYTES, wires / 0x1000000000000);
-    join_byte(page, at + 5 * DG6215_ROW_BYTES, wires / 0x100);
-    join_byte(page, at + 6 * DG6215_ROW_BYTES, wires / 0x1000000);
-    join_byte(page, at + 7 * DG6215_ROW_BYTES, wires / 0x10000000000);
-    join_byte(page, at + 8 * DG6215_ROW_BYTES, wires / 0x100000000000000);
+    let old = page[i] as u64 + page[i + 1] as u64 * 0x100;
+    let new = old | dots % 0x10000;
+    page[i] = (new % 256) as u8;
+    page[i + 1] = (new / 256) as u8;
 }
 
-// Strikes the eight positions from c on, with wire 1 in `row`. As c is a multiple of eight, they are one byte of the row.
-fn eight_positions(page: &mut [u8], line: &[u16], row: Row, pitch: Pitch, c: usize)
+// Strikes the nine wires of sixteen columns, each a row below the one before: wire 1 is in `top`, wires 2 to 5 in `upper`, 6 to 9 in `lower`.
+fn nine_wires(page: &mut [u8], at: usize, top: u64, upper: u64, lower: u64)
+    requires { ⌜ at + 6802 ≤ length (now page) ⌝ }
+    ensures { λ _. ⌜ ((line : List ℕ) (pitch : Pitch) (r : Row) (c : ℕ) → c + 16 ≤ length line → ((k : ℕ) → getD line k 0 < 2 ^ 16)
+        → top ≡ made (fours line c) topmost → upper ≡ made (fours line c) two-to-five → lower ≡ made (fours line c) six-to-nine
+        → at * 8 ≡ dot-at dg6215 r (dg6215 .grid pitch c)
+        → now (page .exit) ≡ blacken-all (now (page .entry)) (line-marks dg6215 (take 16 (drop c line)) pitch r c)) ⌝ }
+{
+    join_two(page, at, top);
+    join_two(page, at + DG6215_ROW_BYTES, upper);
+    join_two(page, at + 2 * DG6215_ROW_BYTES, upper / 0x10000);
+    join_two(page, at + 3 * DG6215_ROW_BYTES, upper / 0x100000000);
+    join_two(page, at + 4 * DG6215_ROW_BYTES, upper / 0x1000000000000);
+    join_two(page, at + 5 * DG6215_ROW_BYTES, lower);
+    join_two(page, at + 6 * DG6215_ROW_BYTES, lower / 0x10000);
+    join_two(page, at + 7 * DG6215_ROW_BYTES, lower / 0x100000000);
+    join_two(page, at + 8 * DG6215_ROW_BYTES, lower / 0x1000000000000);
+}
+
+// Strikes the sixteen positions from c on, with wire 1 in `row`. As c is a multiple of sixteen, they are two bytes of the row.
+fn sixteen_positions(page: &mut [u8], line: &[u16], row: Row, pitch: Pitch, c: usize)
     requires { ⌜ Room dg6215 (now page) (now line) row ⌝ }
-    requires { ⌜ (c % 8 ≡ 0) × (c < dg6215 .width pitch) ⌝ }
-    ensures { λ _. ⌜ now (page .exit) ≡ blacken-all (now (page .entry)) (line-marks dg6215 (take 8 (drop c (now (line .entry)))) pitch row c) ⌝ }
+    requires { ⌜ (c % 16 ≡ 0) × (c < dg6215 .width pitch) ⌝ }
+    ensures { λ _. ⌜ now (page .exit) ≡ blacken-all (now (page .entry)) (line-marks dg6215 (take 16 (drop c (now (line .entry)))) pitch row c) ⌝ }
 {
     let first = four(line, c);
     let second = four(line, c + 4);
+    let third = four(line, c + 8);
+    let fourth = four(line, c + 12);
     let at = page_byte(Model::Dg6215, row, grid(Model::Dg6215, pitch, c));
-    nine_wires(page, at, topmost(first, second), turned(first, second));
+    let top = topmost(first, second, third, fourth);
+    let upper = two_to_five(first, second, third, fourth);
+    let lower = six_to_nine(first, second, third, fourth);
+    nine_wires(page, at, top, upper, lower);
 }
 
 // The wires that any of the n columns from c on has.
@@ -97,7 +146,7 @@ fn any_wires(line: &[u16], c: usize, n: usize) -> u16
     any
 }
 
-// Strikes the eighty positions from c on, eight at a time. Eighty empty ones are passed over.
+// Strikes the eighty positions from c on, sixteen at a time. Eighty empty ones are passed over.
 pub(crate) fn eighty_positions(page: &mut [u8], line: &[u16], row: Row, pitch: Pitch, c: usize)
     requires { ⌜ Room dg6215 (now page) (now line) row ⌝ }
     requires { ⌜ (c % 80 ≡ 0) × (c < dg6215 .width pitch) ⌝ }
@@ -108,7 +157,7 @@ pub(crate) fn eighty_positions(page: &mut [u8], line: &[u16], row: Row, pitch: P
     }
     let mut k = 0;
     while k < 80 {
-        eight_positions(page, line, row, pitch, c + k);
-        k += 8;
+        sixteen_positions(page, line, row, pitch, c + k);
+        k += 16;
     }
 }

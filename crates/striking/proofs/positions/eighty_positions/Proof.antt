@@ -1,4 +1,4 @@
--- `positions::eighty_positions`: positions with no wire leave the page as it is; else each turn strikes the eight that are next, and those left make of
+-- `positions::eighty_positions`: positions with no wire leave the page as it is; else each turn strikes the sixteen that are next, and those left make of
 -- the page what all eighty make of it at entry.
 mod Places
 use Prim.Native.Nat.{_+_, _-_, _≤_}
@@ -7,7 +7,7 @@ use lib.ListN.{length}
 use borrow.Author.Needs.{needs}
 use Rattle.sheet.specs.Edition.{dg6215}
 use Rattle.striking.proofs.Grouping.{none-set}
-use Rattle.striking.proofs.Striking.{eighty-on-line, EightyLeft, eighty-left, eight-more, eighty-struck}
+use Rattle.striking.proofs.Striking.{eighty-on-line, EightyLeft, eighty-left, sixteen-more, eighty-struck}
 use Rattle.striking.proofs.positions.eighty_positions.Statement.{statement}
 use Rattle.striking.proofs.positions.eighty_positions.Tie as tie
 use Places.*
@@ -24,25 +24,25 @@ inside s = eighty-on-line (s .args .line .now) (s .args .pitch) (s .args .c) (s 
 returns : tie.Need-returns Inv-loop μ-loop
 returns c = none-set dg6215 _ _ _ _ _ (omega (arith, c .before .any-wires .ensures, c .if1))
 
--- the eight are on the line, and the nine rows on the page
-eight-positions-requires : tie.Need-eight-positions-requires Inv-loop μ-loop
+-- the sixteen are on the line, and the nine rows on the page
+sixteen-positions-requires : tie.Need-sixteen-positions-requires Inv-loop μ-loop
 unfolding dg6215
-eight-positions-requires c κs =
-    let s = start-at-eight-positions-requires c in
-    let l = loop-at-eight-positions-requires c .loop in
+sixteen-positions-requires c κs =
+    let s = start-at-sixteen-positions-requires c in
+    let l = loop-at-sixteen-positions-requires c .loop in
     let room = s .pre .0 in (
       record { rows = omega (arith, room .rows, l .inv .left .kept); full = room .full },
       (omega (arith, s .pre .1 .0, l .inv .whole), omega (arith, inside s, room .full, l)),
     )
 
-add-eight-positions : tie.Need-add-eight-positions Inv-loop μ-loop
+add-sixteen-positions : tie.Need-add-sixteen-positions Inv-loop μ-loop
 unfolding dg6215
-add-eight-positions c = let s = start-at-add-eight-positions c in omega (arith, inside s, s .pre .0 .full)
+add-sixteen-positions c = let s = start-at-add-sixteen-positions c in omega (arith, inside s, s .pre .0 .full)
 
 loop-again : tie.Need-loop-again Inv-loop μ-loop
 loop-again c =
     let l = loop-at-loop-again c .loop in
-    eight-more _ _ _ _ _ (inside (start-at-loop-again c)) _ _ (l .k) (l .inv) (omega arith) (c .before .before .eight-positions .ensures)
+    sixteen-more _ _ _ _ _ (inside (start-at-loop-again c)) _ _ (l .k) (l .inv) (omega arith) (c .before .before .sixteen-positions .ensures)
 
 returns-2 : tie.Need-returns-2 Inv-loop μ-loop
 returns-2 c = eighty-struck _ _ _ _ _ (inside (start-at-returns-2 c)) _ (c .before .loop .k) (c .before .loop .inv) (omega arith)
@@ -51,4 +51,4 @@ pub eighty-positions-spec : {M : Type 1} → statement M
 eighty-positions-spec =
     tie.close
     (tie.spec Inv-loop μ-loop (λ c κs. inside (c .before .before)) returns (λ c. eighty-left _ _ _ _ _ (inside (start-at-loop-holds c)))
-    add-eight-positions eight-positions-requires (λ c. search needs) (λ c. search needs) loop-again (λ c. c .before .loop .inv .left .kept) returns-2)
+    add-sixteen-positions sixteen-positions-requires (λ c. search needs) (λ c. search needs) loop-again (λ c. c .before .loop .inv .left .kept) returns-2)
