@@ -139,16 +139,15 @@ part-of line w c n within inside =
     ∙ ap (take n) (drop-append-le c low (drop w line) (omega arith))
     ∙ take-append-le n (drop c low) (drop w line) (omega (arith, length-drop c low))
 
--- How many positions are struck one after the other: eight columns of an LP2 at once, and eighty positions of a 6215, sixteen at once.
+-- How many positions are struck together: as many of an LP2 as are struck at once, and of a 6215 eighty, sixteens of which are struck at once.
 abbrev pub together : Model → ℕ
 together Lp2 = 8
 together Dg6215 = 80
 
 -- W is a multiple of so many
 together-below : (w : Model) (pitch : Pitch) (c : ℕ) → c % together w ≡ 0 → c < described w .width pitch → c + together w ≤ described w .width pitch
-unfolding lp2 dg6215
-together-below Lp2 Normal c h l = omega arith
-together-below Lp2 Compressed c h l = omega arith
+unfolding dg6215
+together-below Lp2 pitch c h l = once-below Lp2 pitch c h l
 together-below Dg6215 pitch c h l = omega arith
 
 together-next : (w : Model) (c : ℕ) → c % together w ≡ 0 → (c + together w) % together w ≡ 0

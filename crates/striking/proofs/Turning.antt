@@ -372,13 +372,13 @@ small-part line c n small k = go (decLt k n)
     go (yes h) = omega (arith, small (c + k), part-at line c n k h)
     go (no h) = omega (arith, List·getD-eq-default (take n (drop c line)) 0 {n = k} (omega (arith, length-take n (drop c line))))
 
--- the sixteen columns of a line from column c on
+-- The sixteen columns of a line from column c on.
 module _ (line : List ℕ) (c : ℕ) (inside-line : c + 16 ≤ length line) (small : Small line) where
   -- bit i % 16 of column i / 16 of them
   unfoldable source-of : ℕ → ℕ
   source-of i = bit (getD (take 16 (drop c line)) (i / 16) 0) (i % 16)
 
-  -- four columns from column c + k on, side by side, fit a number of 64 bits, and its bits are theirs
+  -- four columns from column k on, side by side, are a number of 64 bits, which are bits of theirs
   four-fit : (k : ℕ) → side-by-side (take 4 (drop k line)) < 2 ^ 64
   four-fit k =
       let some : List ℕ = take 4 (drop k line) in
@@ -395,7 +395,7 @@ module _ (line : List ℕ) (c : ℕ) (inside-line : c + 16 ≤ length line) (sma
       ∙ ap₂ (λ (m b : ℕ). bit (getD line m 0) b) column same
       ∙ ap (λ (x : ℕ). bit x ((64 * i + j) % 16)) (sym (part-at line c 16 ((64 * i + j) / 16) (omega arith)))
 
-  -- so it is with each of the four numbers, and past them there are no bits
+  -- so is each of the four numbers, and past them there are no bits
   fours-fit : (i : ℕ) → getD (fours line c) i 0 < 2 ^ 64
   unfolding fours
   fours-fit zero = four-fit c

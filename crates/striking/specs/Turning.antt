@@ -45,7 +45,7 @@ left = paired (number 0) (number 2)
 unfoldable pub right : Made
 right = paired (number 1) (number 3)
 
--- wires 2 to 5, from the lowest sixteen bits on; of a wire's the lower byte has columns 0 to 7, column 0 highest, the higher one columns 8 to 15
+-- wires 2 to 5, sixteen bits each, wire 2 lowest: in the lower byte columns 0 to 7, column 0 highest, in the higher one columns 8 to 15
 unfoldable pub two-to-five : Made
 two-to-five = turned (crossed left (differing left right))
 
@@ -53,7 +53,7 @@ two-to-five = turned (crossed left (differing left right))
 unfoldable pub six-to-nine : Made
 six-to-nine = turned (crossed right (higher 4 (differing left right)))
 
--- wire 1, in the lowest sixteen bits
+-- wire 1, in the lowest sixteen bits, in the same way
 unfoldable pub topmost : Made
 topmost =
     let front : Made = crossed (lower 1 (masked 0x0100010001000100 (number 0))) (lower 5 (masked 0x0100010001000100 (number 1))) in

@@ -29,15 +29,16 @@ fn exchanged(f: u64, moved: u64, up: u64) -> u64
     f ^ differing ^ (differing * up)
 }
 
-// The eight lowest wires of four columns and of the four that stand eight further on: a byte for each column, below that of the column eight
-// further on.
+// The eight lowest wires of four columns and of the four that stand eight further on: a byte for each column, and above it that of the column
+// eight further on.
 fn paired(four: u64, further: u64) -> u64
     ensures { λ r. ⌜ r ≡ made (four ∷ further ∷ []) (paired (number 0) (number 1)) ⌝ }
 {
     (four & 0x00FF00FF00FF00FF) ^ ((further & 0x00FF00FF00FF00FF) * 0x100)
 }
 
-// Where the lower half of each byte of `left`, wires 6 to 9, differs from the higher half of that of `right`, wires 2 to 5.
+// Where the lower half of each byte of `left`, wires 6 to 9, differs from the higher half of that of `right`, wires 2 to 5: by these
+// bits the two halves change places.
 fn differing(left: u64, right: u64) -> u64
     ensures { λ r. ⌜ r ≡ made (left ∷ right ∷ []) (differing (number 0) (number 1)) ⌝ }
 {
@@ -53,7 +54,7 @@ fn turned(wires: u64) -> u64
 }
 
 // Wires 2 to 5 of sixteen columns, four of which stand side by side in each number: two bytes for each wire, wire 2 lowest. Of a wire's bytes the
-// lower one has the first eight columns, the first column's bit highest.
+// lower one has the first eight columns, the first column's bit highest, and the other one the other eight.
 fn two_to_five(first: u64, second: u64, third: u64, fourth: u64) -> u64
     ensures { λ r. ⌜ r ≡ made (first ∷ second ∷ third ∷ fourth ∷ []) two-to-five ⌝ }
 {
@@ -71,8 +72,7 @@ fn six_to_nine(first: u64, second: u64, third: u64, fourth: u64) -> u64
     turned(right ^ (differing(left, right) * 0x10))
 }
 
-// Wire 1 of sixteen columns, four of which stand side by side in each number: in the two lowest bytes, the lower one with the first eight columns,
-// the first column's bit highest.
+// Wire 1 of sixteen columns, four of which stand side by side in each number: in the two lowest bytes, as each of wires 2 to 5 is given.
 fn topmost(first: u64, second: u64, third: u64, fourth: u64) -> u64
     ensures { λ r. ⌜ r ≡ made (first ∷ second ∷ third ∷ fourth ∷ []) topmost ⌝ }
 {

@@ -39,4 +39,5 @@ pub join-two-spec : {M : Type 1} → statement M
 join-two-spec =
     tie.close
     (tie.spec (λ c. search needs) cast-old (λ c. search needs) (λ c. search needs) cast-old-2 mul-old add-old-2
-    (λ c. omega (arith, joined-fit c)) (λ c. search needs) (λ c. omega (arith, joined-fit c)) (λ c. search needs) slice-write-page-2 (λ c. search needs) returns)
+    (λ c. omega (arith, joined-fit c)) (λ c. search needs)
+    (λ c. omega (arith, joined-fit c)) (λ c. search needs) slice-write-page-2 (λ c. search needs) returns)
