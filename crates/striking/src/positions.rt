@@ -10,7 +10,7 @@ ghost use Rattle.sheet.specs.declared.Row.{Row};
 ghost use Rattle.sheet.specs.Edition.{dg6215};
 ghost use Rattle.sheet.specs.Dots.{blacken-all, dot-at, line-marks};
 ghost use Rattle.striking.specs.Groups.{any-wires, join, swapped};
-ghost use Rattle.striking.specs.Turning.{number, made, turn, turned, paired, differing, two-to-five, six-to-nine, topmost, fours};
+ghost use Rattle.striking.specs.Turning.{number, made, turn, turned, paired, two-to-five, six-to-nine, topmost, fours};
 ghost use Rattle.striking.specs.Room.{Room};
 use crate::groups::four;
 use sheet::Model;
@@ -37,15 +37,8 @@ fn paired(four: u64, further: u64) -> u64
     (four & 0x00FF00FF00FF00FF) ^ ((further & 0x00FF00FF00FF00FF) * 0x100)
 }
 
-// Where the lower half of each byte of `left`, wires 6 to 9, differs from the higher half of that of `right`, wires 2 to 5: by these
-// bits the two halves change places.
-fn differing(left: u64, right: u64) -> u64
-    ensures { λ r. ⌜ r ≡ made (left ∷ right ∷ []) (differing (number 0) (number 1)) ⌝ }
-{
-    (left ^ (right / 0x10)) & 0x0F0F0F0F0F0F0F0F
-}
-
-// Four wires of sixteen columns, each column's side by side, turned: each wire's side by side, the wire of the highest bits lowest.
+// Four wires of sixteen columns, turned: two bytes for each wire, the wire of the highest bits lowest. Of a wire's bytes the lower one has the first
+// eight columns, the first column's bit highest, and the other one the other eight.
 fn turned(wires: u64) -> u64
     ensures { λ r. ⌜ r ≡ made (wires ∷ []) (turned (number 0)) ⌝ }
 {
@@ -53,26 +46,7 @@ fn turned(wires: u64) -> u64
     exchanged(once, 0x0000555500005555, 0x20000)
 }
 
-// Wires 2 to 5 of sixteen columns, four of which stand side by side in each number: two bytes for each wire, wire 2 lowest. Of a wire's bytes the
-// lower one has the first eight columns, the first column's bit highest, and the other one the other eight.
-fn two_to_five(first: u64, second: u64, third: u64, fourth: u64) -> u64
-    ensures { λ r. ⌜ r ≡ made (first ∷ second ∷ third ∷ fourth ∷ []) two-to-five ⌝ }
-{
-    let left = paired(first, third);
-    let right = paired(second, fourth);
-    turned(left ^ differing(left, right))
-}
-
-// Wires 6 to 9 of sixteen columns, four of which stand side by side in each number, as wires 2 to 5 are given.
-fn six_to_nine(first: u64, second: u64, third: u64, fourth: u64) -> u64
-    ensures { λ r. ⌜ r ≡ made (first ∷ second ∷ third ∷ fourth ∷ []) six-to-nine ⌝ }
-{
-    let left = paired(first, third);
-    let right = paired(second, fourth);
-    turned(right ^ (differing(left, right) * 0x10))
-}
-
-// Wire 1 of sixteen columns, four of which stand side by side in each number: in the two lowest bytes, as each of wires 2 to 5 is given.
+// Wire 1 of sixteen columns, four of which stand side by side in each number: in the two lowest bytes, as each of four wires turned.
 fn topmost(first: u64, second: u64, third: u64, fourth: u64) -> u64
     ensures { λ r. ⌜ r ≡ made (first ∷ second ∷ third ∷ fourth ∷ []) topmost ⌝ }
 {
@@ -115,6 +89,23 @@ fn nine_wires(page: &mut [u8], at: usize, top: u64, upper: u64, lower: u64)
     join_two(page, at + 8 * DG6215_ROW_BYTES, lower / 0x1000000000000);
 }
 
+// Strikes sixteen columns, four of which stand side by side in each number. The higher half of a column's byte is wires 2 to 5, the lower one 6 to 9:
+// the lower halves on the left and the higher ones on the right change places where they differ.
+fn sixteen_columns(page: &mut [u8], at: usize, first: u64, second: u64, third: u64, fourth: u64)
+    requires { ⌜ at + 6802 ≤ length (now page) ⌝ }
+    ensures { λ _. ⌜ ((line : List ℕ) (pitch : Pitch) (r : Row) (c : ℕ) → c + 16 ≤ length line → ((k : ℕ) → getD line k 0 < 2 ^ 16)
+        → first ∷ second ∷ third ∷ fourth ∷ [] ≡ fours line c → at * 8 ≡ dot-at dg6215 r (dg6215 .grid pitch c)
+        → now (page .exit) ≡ blacken-all (now (page .entry)) (line-marks dg6215 (take 16 (drop c line)) pitch r c)) ⌝ }
+{
+    let left = paired(first, third);
+    let right = paired(second, fourth);
+    let differing = (left ^ (right / 0x10)) & 0x0F0F0F0F0F0F0F0F;
+    let top = topmost(first, second, third, fourth);
+    let upper = turned(left ^ differing);
+    let lower = turned(right ^ (differing * 0x10));
+    nine_wires(page, at, top, upper, lower);
+}
+
 // Strikes the sixteen positions from c on, with wire 1 in `row`. As c is a multiple of sixteen, they are two bytes of the row.
 fn sixteen_positions(page: &mut [u8], line: &[u16], row: Row, pitch: Pitch, c: usize)
     requires { ⌜ Room dg6215 (now page) (now line) row ⌝ }
@@ -126,10 +117,7 @@ fn sixteen_positions(page: &mut [u8], line: &[u16], row: Row, pitch: Pitch, c: u
     let third = four(line, c + 8);
     let fourth = four(line, c + 12);
     let at = page_byte(Model::Dg6215, row, grid(Model::Dg6215, pitch, c));
-    let top = topmost(first, second, third, fourth);
-    let upper = two_to_five(first, second, third, fourth);
-    let lower = six_to_nine(first, second, third, fourth);
-    nine_wires(page, at, top, upper, lower);
+    sixteen_columns(page, at, first, second, third, fourth);
 }
 
 // The wires that any of the n columns from c on has.

@@ -1,7 +1,7 @@
--- `positions::sixteen_positions`: the positions stand in two bytes of a row, and what strikes their wires is told the first.
+-- `positions::sixteen_positions`: the positions stand in two bytes of a row, and what strikes their columns is told the first.
 mod Places
 use Prim.Native.Nat.{ℕ, _+_, _≤_, _<_}
-use mathlib.Core.Path.{_≡_, refl, ap, ap₂, _∙_}
+use mathlib.Core.Path.{_≡_, refl, ap, ap₂}
 use mathlib.Core.List.{List, [], _∷_}
 use native.Mathlib.Omega.{arith}
 use lib.ListN.{length}
@@ -9,7 +9,7 @@ use borrow.Author.Needs.{needs}
 use Rattle.sheet.specs.declared.Grid.{Grid}
 use Rattle.sheet.specs.declared.Model.the-variants.{Dg6215}
 use Rattle.sheet.specs.Edition.{dg6215}
-use Rattle.striking.specs.Turning.{made, two-to-five, six-to-nine, topmost, fours}
+use Rattle.striking.specs.Turning.{fours}
 use Rattle.sheet.proofs.Editions.{dg6215-row}
 use Rattle.striking.proofs.Striking.{on-line, Placed, placed}
 use Rattle.striking.proofs.Turning.{Small}
@@ -40,8 +40,8 @@ page-byte-requires c κs =
     let s = start-at-page-byte-requires c in
     (omega (arith, s .pre .0 .rows, s), omega (arith, ap (λ (g : Grid). g .0) (c .grid .ensures), below s))
 
-nine-wires-requires : tie.Need-nine-wires-requires
-nine-wires-requires c κs = omega (arith, begin (page-byte-at-nine-wires-requires c) .fits, dg6215-row)
+sixteen-columns-requires : tie.Need-sixteen-columns-requires
+sixteen-columns-requires c κs = omega (arith, begin (page-byte-at-sixteen-columns-requires c) .fits, dg6215-row)
 
 -- the columns stand side by side in the four numbers
 as-fours : (c : tie.After-four4) → let a = start-at-four4 c .args in
@@ -56,17 +56,13 @@ as-fours c =
 returns : tie.Need-returns
 returns c =
     let s = start-at-returns c in
-    let same = as-fours (four4-at-returns c) in
-    c .before .before .nine-wires .ensures (s .args .line .now) _ _ (s .args .c) (inside s) (small (shared-slice-known-at-returns c))
-    (topmost-at-returns c .topmost .ensures ∙ ap (λ (ns : List ℕ). made ns topmost) same)
-    (two-to-five-at-returns c .two-to-five .ensures ∙ ap (λ (ns : List ℕ). made ns two-to-five) same)
-    (six-to-nine-at-returns c .six-to-nine .ensures ∙ ap (λ (ns : List ℕ). made ns six-to-nine) same) (begin (page-byte-at-returns c) .top)
+    c .before .before .sixteen-columns .ensures (s .args .line .now) _ _ (s .args .c) (inside s) (small (shared-slice-known-at-returns c))
+    (as-fours (four4-at-returns c)) (begin (page-byte-at-returns c) .top)
 
 pub sixteen-positions-spec : {M : Type 1} → statement M
 sixteen-positions-spec =
     tie.close
     (tie.spec (λ c κs. omega (arith, inside (c .before .before))) (λ c. search needs) (λ c κs. omega (arith, inside (c .before .before .before)))
     (λ c. search needs) (λ c κs. omega (arith, inside (start-at-four-requires-3 c))) (λ c. search needs)
-    (λ c κs. omega (arith, inside (start-at-four-requires-4 c)))
-    (λ c κs. omega (arith, below (start-at-grid-requires c))) page-byte-requires (λ c κs. search needs) (λ c κs. search needs) (λ c κs. search needs)
-    nine-wires-requires (λ c. search needs) returns)
+    (λ c κs. omega (arith, inside (start-at-four-requires-4 c))) (λ c κs. omega (arith, below (start-at-grid-requires c))) page-byte-requires
+    sixteen-columns-requires (λ c. search needs) returns)

@@ -11,19 +11,16 @@ abbrev pub four3-at-four4 : tie.After-four4 → tie.After-four3
 four3-at-four4 c = c .before
 
 abbrev pub four4-at-returns : tie.After-slice-known2 → tie.After-four4
-four4-at-returns c = c .before .before .before .before .before .before .before .before .before
-
-abbrev pub page-byte-at-nine-wires-requires : tie.After-nine-wires-arg → tie.After-page-byte
-page-byte-at-nine-wires-requires c = c .before .before .before .before
+four4-at-returns c = c .before .before .before .before .before .before
 
 abbrev pub page-byte-at-returns : tie.After-slice-known2 → tie.After-page-byte
-page-byte-at-returns c = c .before .before .before .before .before .before .before
+page-byte-at-returns c = c .before .before .before .before
+
+abbrev pub page-byte-at-sixteen-columns-requires : tie.After-sixteen-columns-arg → tie.After-page-byte
+page-byte-at-sixteen-columns-requires c = c .before
 
 abbrev pub shared-slice-known-at-returns : tie.After-slice-known2 → tie.After-shared-slice-known
-shared-slice-known-at-returns c = c .before .before .before .before .before .before .before .before .before .before .before .before .before
-
-abbrev pub six-to-nine-at-returns : tie.After-slice-known2 → tie.After-six-to-nine
-six-to-nine-at-returns c = c .before .before .before .before
+shared-slice-known-at-returns c = c .before .before .before .before .before .before .before .before .before .before
 
 abbrev pub start-at-four-requires-3 : tie.After-four2 → tie.Start
 start-at-four-requires-3 c = c .before .before .before .before
@@ -44,10 +41,4 @@ abbrev pub start-at-page-byte-requires : tie.After-grid → tie.Start
 start-at-page-byte-requires c = c .before .before .before .before .before .before .before
 
 abbrev pub start-at-returns : tie.After-slice-known2 → tie.Start
-start-at-returns c = c .before .before .before .before .before .before .before .before .before .before .before .before .before .before .before
-
-abbrev pub topmost-at-returns : tie.After-slice-known2 → tie.After-topmost
-topmost-at-returns c = c .before .before .before .before .before .before
-
-abbrev pub two-to-five-at-returns : tie.After-slice-known2 → tie.After-two-to-five
-two-to-five-at-returns c = c .before .before .before .before .before
+start-at-returns c = c .before .before .before .before .before .before .before .before .before .before .before .before
