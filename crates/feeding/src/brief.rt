@@ -1,6 +1,7 @@
 // A brief piece: one byte that is a character or a column, or none.
 ghost use mathlib.Core.Path.{_≡_};
 ghost use mathlib.Core.Bool.{true, false};
+ghost use Prim.Native.Nat.{_≤_};
 ghost use lib.ListN.{length};
 ghost use Rattle.printer.specs.Given.{machine};
 ghost use Rattle.printer.specs.Machine.{edition-of, store-size};
@@ -20,6 +21,16 @@ use state::rest_sound;
 use words::advance;
 use words::at_rest;
 use words::state_with;
+
+// Whether a piece is brief: no byte, or one other than ESC, which goes on no run.
+fn brief(piece: &[u8]) -> bool
+    ensures { λ r. ⌜ (r ≡ true → length (now (piece .entry)) ≤ 1) ⌝ }
+{
+    if piece.len() == 0 {
+        return true;
+    }
+    piece.len() == 1 && piece[0] != 0x1b
+}
 
 // Whether bytes may be fed: the state is sound, and all that is lent has its length.
 fn feedable(
@@ -67,7 +78,7 @@ pub(crate) fn feed_brief(
     ensures { λ r. ⌜ (r ≡ false
         → (now (state .exit) ≡ now (state .entry)) × (now (line .exit) ≡ now (line .entry)) × (now (report .exit) ≡ now (report .entry))) ⌝ }
 {
-    if 1 < piece.len() {
+    if !brief(piece) {
         return false;
     }
     if report.len() != REPORT_WORDS {

@@ -1,7 +1,7 @@
 -- `brief::feed_brief`: what is refused, or is no character or column, is left as it is; no byte, and one that goes on a run, is fed as `feeding` feeds it.
 mod Places
 use borrow.Author.Needs.{needs}
-use Prim.Native.Nat.{ℕ, _<_}
+use Prim.Native.Nat.{ℕ, _≤_, _<_}
 use mathlib.Core.Bool.{true, false, true≢false}
 use mathlib.Core.List.{List}
 use mathlib.Core.Path.{_≡_, refl, ap, subst, sym, _∙_}
@@ -35,6 +35,10 @@ byte s = getD (s .args .piece .now) 0 0
 
 abbrev told : tie.Start → List ℕ
 told s = s .args .report .now
+
+-- past the first test the piece has one byte at most
+short : (c : tie.Else1) → length (start-at-else1 c .args .piece .now) ≤ 1
+short c = c .before .brief .ensures (not-false (c .before .brief .result) (c .if1 .left))
 
 -- past the third test the words are at rest, past the fourth the machine is ready
 rests : (c : tie.Else3) → at-rest (lent (start-at-else3 c) .state) ≡ true
@@ -119,14 +123,14 @@ returns-7 c =
     byte-fed (lent s) (byte s) _ _ _ (ran (single-at-returns-7 c)) (reached-at-returns-7 c .reached .given .1) (told s) (rests (else3-at-returns-7 c))
     (else2-at-returns-7 c .if2 .left) (k .state-with .ensures) (described-proper (k .state-with .result .model)) (ready (else4-at-returns-7 c))
     (advance-at-returns-7 c .advance .ensures (k .state-with .result) (words-held k)) (tell2-at-returns-7 c .tell2 .ensures) in (
-      λ q. (fed .0 ∙ ap (fed-piece s) (sym (one-byte (s .args .piece .now) (else1-at-returns-7 c .if1 .left) (else5-at-returns-7 c .if5 .left))), fed .1 (omega arith)),
+      λ q. (fed .0 ∙ ap (fed-piece s) (sym (one-byte (s .args .piece .now) (short (else1-at-returns-7 c)) (else5-at-returns-7 c .if5 .left))), fed .1 (omega arith)),
       λ q. absurd (true≢false q),
     )
 
 pub feed-brief-spec : {M : Type 1} → statement M
 feed-brief-spec =
     tie.close
-    (tie.spec returns returns-2 (λ c κs. search needs) (λ c. search needs) returns-3 state-with-requires (λ c κs. search needs) (λ c. search needs)
+    (tie.spec (λ c κs. search needs) returns returns-2 (λ c κs. search needs) (λ c. search needs) returns-3 state-with-requires (λ c κs. search needs) (λ c. search needs)
     (λ c. search needs) returns-4 (λ c κs. search needs) (λ c. search needs) (λ c. search needs) (λ c. search needs) returns-5 (λ c. search needs)
     single-requires (λ c. search needs) (λ c. search needs) advance-requires (λ c κs. search needs) (λ c. search needs) (λ c. search needs) returns-6
     (λ c. search needs) (λ c. search needs) (λ c. search needs) returns-7)

@@ -63,34 +63,38 @@ single-at-returns-7 c = c .before .before .before .before .before .before .befor
 
 abbrev pub start-at-advance-requires : tie.After-advance-arg → tie.Start
 start-at-advance-requires c = c .before .before .before .before .before .before .before .before .before .before .before .before .before .before
-    .before .before .before .before .before .before .before .before .before .before .before .before .before .before
+    .before .before .before .before .before .before .before .before .before .before .before .before .before .before .before
+
+abbrev pub start-at-else1 : tie.Else1 → tie.Start
+start-at-else1 c = c .before .before .before .before .before .before .before .before .before .before
 
 abbrev pub start-at-else3 : tie.Else3 → tie.Start
-start-at-else3 c = c .before .before .before .before .before .before .before .before .before .before .before .before .before
+start-at-else3 c = c .before .before .before .before .before .before .before .before .before .before .before .before .before .before
 
 abbrev pub start-at-else4 : tie.Else4 → tie.Start
 start-at-else4 c = c .before .before .before .before .before .before .before .before .before .before .before .before .before .before .before .before
-    .before .before
+    .before .before .before
 
 abbrev pub start-at-returns-5 : tie.After-slice-known4 → tie.Start
 start-at-returns-5 c = c .before .before .before .before .before .before .before .before .before .before .before .before .before .before .before
-    .before .before .before .before .before .before .before .before
+    .before .before .before .before .before .before .before .before .before
 
 abbrev pub start-at-returns-6 : tie.After-enum-told → tie.Start
 start-at-returns-6 c = c .before .before .before .before .before .before .before .before .before .before .before .before .before .before .before
-    .before .before .before .before .before .before .before .before .before .before .before
+    .before .before .before .before .before .before .before .before .before .before .before .before
 
 abbrev pub start-at-returns-7 : tie.After-slice-known7 → tie.Start
 start-at-returns-7 c = c .before .before .before .before .before .before .before .before .before .before .before .before .before .before .before
     .before .before .before .before .before .before .before .before .before .before .before .before .before .before .before .before .before .before
-    .before .before
+    .before .before .before
 
 abbrev pub start-at-single : tie.After-single → tie.Start
 start-at-single c = c .before .before .before .before .before .before .before .before .before .before .before .before .before .before .before .before
-    .before .before .before .before .before .before
+    .before .before .before .before .before .before .before
 
 abbrev pub start-at-state-with : tie.After-state-with → tie.Start
 start-at-state-with c = c .before .before .before .before .before .before .before .before .before .before .before .before .before .before .before
+    .before
 
 abbrev pub state-with-at-advance-requires : tie.After-advance-arg → tie.After-state-with
 state-with-at-advance-requires c = c .before .before .before .before .before .before .before .before .before .before .before .before .before
