@@ -14,8 +14,7 @@ use Rattle.printer.specs.Given.{machine}
 use Rattle.printer.specs.Machine.{Machine, edition-of, limit, store-size}
 use Rattle.printer.specs.Room.{Ready}
 use Rattle.job.proofs.Underway.{writable}
-use Rattle.runs.specs.Runs.{reached}
-use Rattle.words.specs.Words.{at-rest, state-with, state-words}
+use Rattle.words.specs.Words.{at-rest, state-words}
 use Rattle.words.proofs.Ranges.{state-halves}
 use Rattle.words.proofs.Resting.{rest-is-state, rest-length, rest-words}
 use Rattle.feeding.specs.Feeding.{Called}
@@ -104,10 +103,9 @@ returns-5 c =
     let k = state-with-at-returns-5 c in
     let fed =
     none-fed (lent s) (told s) (rests (else3-at-returns-5 c)) (else2-at-returns-5 c .if2 .left) (k .state-with .ensures) (ready (else4-at-returns-5 c))
-    (words-held k) (tell-at-returns-5 c .tell .ensures) in (
-      λ q. (fed .0 ∙ ap (fed-piece s) (sym (no-byte (s .args .piece .now) (then5-at-returns-5 c .if5 .taken))), fed .1 (omega arith)),
-      λ q. absurd (true≢false q),
-    )
+    (words-held k) (tell-at-returns-5 c .tell .ensures) in
+    let none = no-byte (s .args .piece .now) (then5-at-returns-5 c .if5 .taken) in
+    (λ q. (fed .0 ∙ ap (fed-piece s) (sym none), fed .1 (omega arith)), λ q. absurd (true≢false q))
 
 returns-6 : tie.Need-returns-6
 returns-6 c =
@@ -122,15 +120,14 @@ returns-7 c =
     let fed =
     byte-fed (lent s) (byte s) _ _ _ (ran (single-at-returns-7 c)) (reached-at-returns-7 c .reached .given .1) (told s) (rests (else3-at-returns-7 c))
     (else2-at-returns-7 c .if2 .left) (k .state-with .ensures) (described-proper (k .state-with .result .model)) (ready (else4-at-returns-7 c))
-    (advance-at-returns-7 c .advance .ensures (k .state-with .result) (words-held k)) (tell2-at-returns-7 c .tell2 .ensures) in (
-      λ q. (fed .0 ∙ ap (fed-piece s) (sym (one-byte (s .args .piece .now) (short (else1-at-returns-7 c)) (else5-at-returns-7 c .if5 .left))), fed .1 (omega arith)),
-      λ q. absurd (true≢false q),
-    )
+    (advance-at-returns-7 c .advance .ensures (k .state-with .result) (words-held k)) (tell2-at-returns-7 c .tell2 .ensures) in
+    let one = one-byte (s .args .piece .now) (short (else1-at-returns-7 c)) (else5-at-returns-7 c .if5 .left) in
+    (λ q. (fed .0 ∙ ap (fed-piece s) (sym one), fed .1 (omega arith)), λ q. absurd (true≢false q))
 
 pub feed-brief-spec : {M : Type 1} → statement M
 feed-brief-spec =
     tie.close
-    (tie.spec (λ c κs. search needs) returns returns-2 (λ c κs. search needs) (λ c. search needs) returns-3 state-with-requires (λ c κs. search needs) (λ c. search needs)
-    (λ c. search needs) returns-4 (λ c κs. search needs) (λ c. search needs) (λ c. search needs) (λ c. search needs) returns-5 (λ c. search needs)
-    single-requires (λ c. search needs) (λ c. search needs) advance-requires (λ c κs. search needs) (λ c. search needs) (λ c. search needs) returns-6
-    (λ c. search needs) (λ c. search needs) (λ c. search needs) returns-7)
+    (tie.spec (λ c κs. search needs) returns returns-2 (λ c κs. search needs) (λ c. search needs) returns-3 state-with-requires
+    (λ c κs. search needs) (λ c. search needs) (λ c. search needs) returns-4 (λ c κs. search needs) (λ c. search needs) (λ c. search needs)
+    (λ c. search needs) returns-5 (λ c. search needs) single-requires (λ c. search needs) (λ c. search needs) advance-requires (λ c κs. search needs)
+    (λ c. search needs) (λ c. search needs) returns-6 (λ c. search needs) (λ c. search needs) (λ c. search needs) returns-7)
