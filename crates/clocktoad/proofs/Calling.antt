@@ -23,7 +23,8 @@ use Rattle.protocol.proofs.Answering.{opening-refused}
 use Rattle.protocol.proofs.Ways.{open-admitted}
 use Rattle.feeding.specs.Feeding.{Called, called, refused-or, report-size}
 use Rattle.feeding.proofs.Feeding.{Lent, left-alone}
-use Rattle.clocktoad.specs.Calls.{Closed, close-call, closing-report, closing-words, due-call, model-call, of-model, open-call, opening-words, shut-words}
+use Rattle.clocktoad.specs.Calls.{Closed, close-call, closing-report, closing-words, due-call, model-call, of-model, open-call}
+use Rattle.clocktoad.specs.Calls.{opening-words, shut-words}
 use Rattle.words.specs.Words.{is-model, is-state, model-of, state-of, state-size, state-words}
 
 -- words that take the place of others are a state where those are as many as one has
@@ -103,7 +104,8 @@ module _ (state told : List ℕ) where
   unfolding close-call
   close-10 q = simp q
 
-  pub closes : (c : Closing) {p : Printer} → is-state state ≡ true → p ≡ state-of state → c ≡ closing (edition-of p) p → closing-words c told ≡ at-close
+  pub closes : (c : Closing) {p : Printer} → is-state state ≡ true → p ≡ state-of state → c ≡ closing (edition-of p) p
+      → closing-words c told ≡ at-close
   unfolding close-call
   closes c q p e = simp (q, e, p)
 

@@ -105,7 +105,8 @@ module _ (x : Lent) (piece told : List ℕ) where
     unfolding feed-call
     feed-unreported n r = (rw (q, ne-eqb (length told) report-size n, r, s), λ m. q)
 
-    pub feeds : (f : Feeding) → length told ≡ report-size → f ≡ feeding (edition-of p) (x .font) piece lent-to → feeding-words f (x .state) told ≡ at-feed
+    pub feeds : (f : Feeding) → length told ≡ report-size → f ≡ feeding (edition-of p) (x .font) piece lent-to
+        → feeding-words f (x .state) told ≡ at-feed
     unfolding feed-call
     feeds f k e = simp (eq-eqb (length told) report-size k, q, e, s)
 
@@ -147,7 +148,8 @@ one-byte (b ∷ c ∷ bs) most some = absurd (omega arith)
 
 -- No byte fed to words at rest.
 pub none-fed : (x : Lent) (told : List ℕ) {p : Printer} {written : List ℕ} → at-rest (x .state) ≡ true → length told ≡ report-size
-    → p ≡ state-with (x .state) Nothing → Ready (edition-of p) (machine p (x .page) (x .line) (x .staging) (x .store)) × (length (x .font) ≡ store-size)
+    → p ≡ state-with (x .state) Nothing
+    → Ready (edition-of p) (machine p (x .page) (x .line) (x .staging) (x .store)) × (length (x .font) ≡ store-size)
     → x .state ≡ state-words p → written ≡ 0 ∷ 0 ∷ 0 ∷ 0 ∷ []
     → Feeds x [] told (called 0 (x .state) (x .page) (x .line) (x .staging) (x .store) written)
 unfolding refusal report take-bytes
@@ -185,16 +187,19 @@ module _ (x : Lent) (b : ℕ) (p : Printer) (r : Reached) (after : List ℕ) whe
     abbrev fed : Feeding
     fed = record { answer = Done; taken = 1; machine = machine (moved column p) (x .page) after (x .staging) (x .store) }
 
-    byte-taken : Proper (edition-of p) → Ready (edition-of p) lent-at → length (x .font) ≡ store-size → fed ≡ feeding (edition-of p) (x .font) (b ∷ []) lent-at
+    byte-taken : Proper (edition-of p) → Ready (edition-of p) lent-at → length (x .font) ≡ store-size
+        → fed ≡ feeding (edition-of p) (x .font) (b ∷ []) lent-at
     unfolding reached take-bytes
     byte-taken proper ready f =
         let there : given-run (reached (At column) p) (x .page) after (x .staging) (x .store) ≡ running (edition-of p) (x .font) (b ∷ []) lent-at =
-        subst (λ (q : Reached). given-run (reached q p) (x .page) after (x .staging) (x .store) ≡ running (edition-of p) (x .font) (b ∷ []) lent-at) is ran in
+        subst (λ (q : Reached). given-run (reached q p) (x .page) after (x .staging) (x .store)
+        ≡ running (edition-of p) (x .font) (b ∷ []) lent-at) is ran in
         takes-fed ready (x .font) f (b ∷ []) fed (sym (run-leads (edition-of p) proper (x .font) {m = lent-at} there .same))
 
-    pub byte-fed : (told : List ℕ) {words written : List ℕ} → at-rest (x .state) ≡ true → length told ≡ report-size → p ≡ state-with (x .state) Nothing
-        → Proper (edition-of p) → Ready (edition-of p) lent-at × (length (x .font) ≡ store-size) → words ≡ state-words (moved column p)
-        → written ≡ 1 ∷ 0 ∷ 0 ∷ 0 ∷ [] → Feeds x (b ∷ []) told (called 0 words (x .page) after (x .staging) (x .store) written)
+    pub byte-fed : (told : List ℕ) {words written : List ℕ} → at-rest (x .state) ≡ true → length told ≡ report-size
+        → p ≡ state-with (x .state) Nothing → Proper (edition-of p) → Ready (edition-of p) lent-at × (length (x .font) ≡ store-size)
+        → words ≡ state-words (moved column p) → written ≡ 1 ∷ 0 ∷ 0 ∷ 0 ∷ []
+        → Feeds x (b ∷ []) told (called 0 words (x .page) after (x .staging) (x .store) written)
     unfolding refusal report
     byte-fed told rests k s proper ready w t =
         let held = rest-is-state (x .state) rests in

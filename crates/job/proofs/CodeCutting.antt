@@ -24,7 +24,8 @@ use Rattle.protocol.proofs.StaysHeld.{feeding-held, finished-held, opening-held
 -- the state, feeding goes by the state's
 pub record Meets : Type 0 where
   pub open-job : Model → ℕ → ℕ → List ℕ → Machine → Opening
-  pub opens : (w : Model) (lines spacing : ℕ) (font : List ℕ) (lent : Machine) → lines < 2 ^ 64 → spacing < 2 ^ 64 → HeldBytes font → HeldMemory lent
+  pub opens : (w : Model) (lines spacing : ℕ) (font : List ℕ) (lent : Machine) → lines < 2 ^ 64 → spacing < 2 ^ 64
+      → HeldBytes font → HeldMemory lent
       → open-job w lines spacing font lent ≡ opening w lines spacing font lent
   pub feed : List ℕ → List ℕ → Machine → Feeding
   pub feeds : (font piece : List ℕ) (m : Machine) → HeldBytes font → HeldBytes piece → Held m

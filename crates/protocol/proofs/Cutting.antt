@@ -17,7 +17,8 @@ use Rattle.protocol.specs.Protocol.{delivered, delivery, joined, room}
 use Rattle.protocol.proofs.PastLimit.{all-fit, past-limit, past-limit-from}
 
 -- from any machine that is ready and has nothing pending, for bytes that fit the job
-pub any-cutting-from : {e : Edition} → Proper e → {m : Machine} → Ready e m → m .printer .pending ≡ Nothing → (font : List ℕ) → length font ≡ store-size
+pub any-cutting-from : {e : Edition} → Proper e → {m : Machine} → Ready e m → m .printer .pending ≡ Nothing
+    → (font : List ℕ) → length font ≡ store-size
     → (pieces : List (List ℕ))
     → m .printer .job + length (joined pieces) ≤ 4294967295 → delivery e (feeding e font) pieces m ≡ delivered (reading e font (joined pieces) m)
 any-cutting-from {e} proper {m} h idle font sized pieces l =

@@ -121,7 +121,8 @@ pub comes-back : {r s : Ran} {page line staging store : List ℕ} {x : Run} → 
 comes-back e h = rw e (sym h)
 
 -- a byte goes on only in a job that has room for it
-pub room-taken : (e : Edition) (font : List ℕ) (b : ℕ) (m : Machine) (r : Run) → r ≡ running e font (b ∷ []) m → 1 ≤ r .taken → m .printer .job < limit
+pub room-taken : (e : Edition) (font : List ℕ) (b : ℕ) (m : Machine) (r : Run) → r ≡ running e font (b ∷ []) m → 1 ≤ r .taken
+    → m .printer .job < limit
 unfolding running
 room-taken e font b m r is some = go _ _ _ refl (subst (λ (x : Run). 1 ≤ x .taken) is some)
   where

@@ -79,7 +79,8 @@ module _ (model : Model) {style : Style} {stride each w : ℕ} (pace : Pace (des
 
 module _ {e : Edition} (proper : Proper e) {style : Style} {stride each w : ℕ} (pace : Pace e style stride each w) where
   -- its cell is on the line
-  pub roomy : {b code at : ℕ} {line glyphs : List ℕ} → stride ≤ 5 → (prints b ≡ true) × (at + each ≤ w) → code ≡ b → length line ≡ e .columns
+  pub roomy : {b code at : ℕ} {line glyphs : List ℕ} → stride ≤ 5 → (prints b ≡ true) × (at + each ≤ w) → code ≡ b
+      → length line ≡ e .columns
       → length glyphs ≡ store-size → Room line glyphs code (style .elongated) at stride
   unfolding prints
   roomy {b} five h c l g =

@@ -67,7 +67,8 @@ pub record Placed (w : Model) (page : List ℕ) (row : Row) (pitch : Pitch) (c a
 
 -- so they do in a row from which on there is room, at the byte that the position's place on the grid gives
 pub placed : (w : Model) (page line : List ℕ) (row : Row) (p q : Pitch) (c : ℕ) (g : Grid) (at : ℕ) → Room (described w) page line row
-    → c % at-once w ≡ 0 → c < described w .width p → p ≡ q → g ≡ described w .grid p c → at ≡ page-byte (described w) row g → Placed w page row q c at
+    → c % at-once w ≡ 0 → c < described w .width p → p ≡ q → g ≡ described w .grid p c → at ≡ page-byte (described w) row g
+    → Placed w page row q c at
 unfolding dot-at page-byte
 placed w page line row p q c g at room h l same e byte =
     let here : g .0 ≡ taken w p * (c / at-once w) * 8 = ap (λ (k : Grid). k .0) e ∙ at-top w p c h in

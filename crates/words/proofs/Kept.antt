@@ -18,8 +18,9 @@ use Rattle.printer.specs.declared.Pending.the-variants.{AddressHigh, AddressLow
 use Rattle.printer.specs.declared.Printer.{Printer}
 use Rattle.printer.specs.declared.Setting.{Setting}
 use Rattle.printer.specs.declared.Setting.the-variants.{Omitted, Given}
-use Rattle.words.specs.Words.{Ranged, at-most, form-of, head-of, in-range, in-range-before, is-state, model-of, model-word, number-limit, part}
-use Rattle.words.specs.Words.{pending-of, pending-words, pitch-of, pitch-word, setting-of, setting-word, state-of, state-size, state-words, style-of, truth}
+use Rattle.words.specs.Words.{Ranged, at-most, form-of, head-of, in-range, in-range-before, is-state, model-of, model-word}
+use Rattle.words.specs.Words.{number-limit, part, pending-of, pending-words, pitch-of, pitch-word, setting-of, setting-word, state-of}
+use Rattle.words.specs.Words.{state-size, state-words, style-of, truth}
 
 truth-kept : (b : Bool) → eqb (truth b) 1 ≡ b
 unfolding truth

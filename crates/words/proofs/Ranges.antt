@@ -1,5 +1,5 @@
 -- The ranges of a state's words.
-use Prim.Native.Nat.{ℕ, suc, _+_, _-_, _≤_, _<_}
+use Prim.Native.Nat.{ℕ, zero, suc, _+_, _-_, _≤_, _<_}
 use mathlib.Core.Bool.{Bool, true, false, _&&_, cond, and-eq-true-iff}
 use mathlib.Core.List.{List}
 use mathlib.Core.Path.{_≡_, ap, subst, sym, _∙_}
@@ -44,11 +44,19 @@ unfolding at-most
 part-end m k n i ws l = let e : n - i ≡ 0 = omega arith in simp e
 
 -- a part whose words are in range has its first in range, and so the next
-pub first : (m k n : ℕ) (ws : List ℕ) → k < length ws → at-most m (take (suc n) (drop k ws)) ≡ true
+first : (m k n : ℕ) (ws : List ℕ) → k < length ws → at-most m (take (suc n) (drop k ws)) ≡ true
     → (getD ws k 0 ≤ m) × (at-most m (take n (drop (suc k) ws)) ≡ true)
 first m k n ws h q =
     let both = and-eq-true-iff (leb (getD ws k 0) m) (at-most m (take n (drop (suc k) ws))) .0 (sym (part-turn m k n ws h) ∙ q) in
     (leb-true _ _ (both .0), both .1)
+
+-- so has each of its words
+pub within : (m k n : ℕ) (ws : List ℕ) → k + n ≤ length ws → at-most m (part k n ws) ≡ true → (i : ℕ) → i < n → getD ws (k + i) 0 ≤ m
+within m k zero ws l q i h = absurd (omega arith)
+within m k (suc n) ws l q zero h = subst (λ (j : ℕ). getD ws j 0 ≤ m) (omega arith) (first m k n ws (omega arith) q .0)
+within m k (suc n) ws l q (suc i) h =
+    let rest = first m k n ws (omega arith) q .1 in
+    subst (λ (j : ℕ). getD ws j 0 ≤ m) (omega arith) (within m (suc k) n ws (omega arith) rest i (omega arith))
 
 each : (a b c d e f g : Bool) → (a && b && c && d && e && f && g) ≡ true
     → (a ≡ true) × (b ≡ true) × (c ≡ true) × (d ≡ true) × (e ≡ true) × (f ≡ true) × (g ≡ true)
@@ -98,14 +106,12 @@ ranges ws l r =
     let most : ℕ = number-limit (getD ws 17 0) in
     let held =
     each (small 1 0 1) (small 4294967295 5 1) (small 1 8 7) (small 11 17 1) (small 4294967295 18 1) (small 255 19 1) (small most 20 3) r in
-    let x = first most 20 2 ws (omega arith) (held .6) in
-    let y = first most 21 1 ws (omega arith) (x .1) in
-    let z = first most 22 0 ws (omega arith) (y .1) in
+    let numbers = within most 20 3 ws (omega arith) (held .6) in
     record {
-      job = first 4294967295 5 0 ws (omega arith) (held .1) .0;
-      place = first 4294967295 18 0 ws (omega arith) (held .4) .0;
-      byte = first 255 19 0 ws (omega arith) (held .5) .0;
-      count = x .0;
-      address = y .0;
-      taken = z .0;
+      job = within 4294967295 5 1 ws (omega arith) (held .1) 0 (omega arith);
+      place = within 4294967295 18 1 ws (omega arith) (held .4) 0 (omega arith);
+      byte = within 255 19 1 ws (omega arith) (held .5) 0 (omega arith);
+      count = numbers 0 (omega arith);
+      address = numbers 1 (omega arith);
+      taken = numbers 2 (omega arith);
     }

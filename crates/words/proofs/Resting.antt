@@ -1,5 +1,5 @@
 -- Words at rest: they are a state in which nothing is pending, and the words of the state that they hold.
-use Prim.Native.Nat.{ℕ, zero, suc, _+_, _≤_}
+use Prim.Native.Nat.{ℕ, zero, suc, _+_, _≤_, _<_}
 use mathlib.Core.Bool.{Bool, true, _&&_, and-eq-true-iff}
 use mathlib.Core.List.{List, [], _∷_}
 use mathlib.Core.Path.{_≡_, refl, ap, _∙_}
@@ -13,7 +13,7 @@ use Rattle.printer.specs.Machine.{limit}
 use Rattle.words.specs.Words.{at-most, at-rest, form-of, head-of, in-range-before, is-state, model-of, model-word, part, pending-of, pending-words}
 use Rattle.words.specs.Words.{pitch-of, pitch-word, state-of, state-size, state-with, state-words, style-of, truth}
 use Rattle.words.proofs.Kept.{put-is-state}
-use Rattle.words.proofs.Ranges.{first}
+use Rattle.words.proofs.Ranges.{within}
 
 -- n words from word k on, read one by one
 unfoldable read : ℕ → ℕ → List ℕ → List ℕ
@@ -67,19 +67,14 @@ module _ (ws : List ℕ) (rests : at-rest ws ≡ true) where
   rest-length = eqb-true _ _ (tests .0)
 
   pub rest-job : w 5 ≤ limit
-  rest-job = let l = rest-length in first limit 5 0 ws (omega arith) (tests .3) .0
+  rest-job = let l = rest-length in within limit 5 1 ws (omega arith) (tests .3) 0 (omega arith)
 
   -- the words of what is pending are 0
   pub rest-nothing : (w 17 ≡ 0) × (w 18 ≡ 0) × (w 19 ≡ 0) × (w 20 ≡ 0) × (w 21 ≡ 0) × (w 22 ≡ 0)
   rest-nothing =
       let l = rest-length in
-      let a = first 0 17 5 ws (omega arith) (tests .1) in
-      let b = first 0 18 4 ws (omega arith) (a .1) in
-      let c = first 0 19 3 ws (omega arith) (b .1) in
-      let d = first 0 20 2 ws (omega arith) (c .1) in
-      let e = first 0 21 1 ws (omega arith) (d .1) in
-      let f = first 0 22 0 ws (omega arith) (e .1) in
-      (omega (arith, a .0), omega (arith, b .0), omega (arith, c .0), omega (arith, d .0), omega (arith, e .0), omega (arith, f .0))
+      let none : (i : ℕ) → i < 6 → w (17 + i) ≡ 0 = λ i h. omega (arith, within 0 17 6 ws (omega arith) (tests .1) i h) in
+      (none 0 (omega arith), none 1 (omega arith), none 2 (omega arith), none 3 (omega arith), none 4 (omega arith), none 5 (omega arith))
 
   pub rest-state : state-of ws ≡ state-with ws Nothing
   unfolding state-of pending-of
@@ -90,14 +85,7 @@ module _ (ws : List ℕ) (rests : at-rest ws ≡ true) where
   unfolding read state-words form-of head-of style-of pending-words
   rest-words =
       let l = rest-length in
-      let m = first 1 0 0 ws (omega arith) (tests .2) in
-      let a = first 1 8 6 ws (omega arith) (tests .4) in
-      let b = first 1 9 5 ws (omega arith) (a .1) in
-      let c = first 1 10 4 ws (omega arith) (b .1) in
-      let d = first 1 11 3 ws (omega arith) (c .1) in
-      let e = first 1 12 2 ws (omega arith) (d .1) in
-      let f = first 1 13 1 ws (omega arith) (e .1) in
-      let g = first 1 14 0 ws (omega arith) (f .1) in
+      let flag : (i : ℕ) → i < 7 → w (8 + i) ≤ 1 = within 1 8 7 ws (omega arith) (tests .4) in
       let n = rest-nothing in
       spelled 23 0 ws (omega arith)
       ∙ simp (
@@ -107,14 +95,14 @@ module _ (ws : List ℕ) (rests : at-rest ws ≡ true) where
         n .3,
         n .4,
         n .5,
-        word-model (w 0) (m .0),
-        word-truth (w 8) (a .0),
-        word-truth (w 9) (b .0),
-        word-truth (w 10) (c .0),
-        word-pitch (w 11) (d .0),
-        word-truth (w 12) (e .0),
-        word-truth (w 13) (f .0),
-        word-truth (w 14) (g .0),
+        word-model (w 0) (within 1 0 1 ws (omega arith) (tests .2) 0 (omega arith)),
+        word-truth (w 8) (flag 0 (omega arith)),
+        word-truth (w 9) (flag 1 (omega arith)),
+        word-truth (w 10) (flag 2 (omega arith)),
+        word-pitch (w 11) (flag 3 (omega arith)),
+        word-truth (w 12) (flag 4 (omega arith)),
+        word-truth (w 13) (flag 5 (omega arith)),
+        word-truth (w 14) (flag 6 (omega arith)),
       )
 
   pub rest-is-state : is-state ws ≡ true

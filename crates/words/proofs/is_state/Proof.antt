@@ -1,4 +1,4 @@
--- `is_state`: another number of words fails the first test; for twenty the ranges decide.
+-- `is_state`: another number of words fails the first test; for as many as a state has the ranges decide.
 use borrow.Author.Needs.{needs}
 use borrow.Author.Tests.{eq-eqb, ne-eqb}
 use Rattle.words.specs.Words.{is-state, state-size}

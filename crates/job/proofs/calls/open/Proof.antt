@@ -23,7 +23,8 @@ lent c p = let a = c .args in machine p (a .page .now) (a .line .now) (a .stagin
 
 -- a refused opening, over the memory as it was lent
 shut-with : (c : tie.Start) {o : Opened} {answer : Answer} → o ≡ record { printer = shut (c .args .model); answer = answer }
-    → let a = c .args in given-opening o (a .page .now) (a .line .now) (a .staging .now) (a .store .now) ≡ unopened (a .model) answer (lent c (shut (a .model)))
+    → let a = c .args in given-opening o (a .page .now) (a .line .now) (a .staging .now) (a .store .now)
+    ≡ unopened (a .model) answer (lent c (shut (a .model)))
 shut-with c q = let a = c .args in ap (λ (o : Opened). given-opening o (a .page .now) (a .line .now) (a .staging .now) (a .store .now)) q
 
 -- past the test all fits

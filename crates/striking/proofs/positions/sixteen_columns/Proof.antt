@@ -24,7 +24,8 @@ upper-is : (c : tie.After-turned) → c .turned .result ≡ made (fours-of (star
 unfolding made turn turned paired differing left right two-to-five
 upper-is c =
     c .turned .ensures
-    ∙ ap₂ (λ (x y : ℕ). made (bitXor x (apart x y) ∷ []) (turned (number 0))) (c .before .before .before .paired .ensures) (c .before .before .paired2 .ensures)
+    ∙ ap₂ (λ (x y : ℕ). made (bitXor x (apart x y) ∷ []) (turned (number 0))) (c .before .before .before .paired .ensures)
+    (c .before .before .paired2 .ensures)
 
 lower-is : (c : tie.After-turned2) → c .turned2 .result ≡ made (fours-of (start-at-turned2 c)) six-to-nine
 unfolding made turn turned paired differing left right six-to-nine

@@ -45,13 +45,15 @@ sixteen-columns-requires c κs = omega (arith, begin (page-byte-at-sixteen-colum
 
 -- the columns stand side by side in the four numbers
 as-fours : (c : tie.After-four4) → let a = start-at-four4 c .args in
-    four-at-four4 c .four .result ∷ four2-at-four4 c .four2 .result ∷ four3-at-four4 c .four3 .result ∷ c .four4 .result ∷ [] ≡ fours (a .line .now) (a .c)
+    four-at-four4 c .four .result ∷ four2-at-four4 c .four2 .result ∷ four3-at-four4 c .four3 .result ∷ c .four4 .result ∷ []
+    ≡ fours (a .line .now) (a .c)
 unfolding fours
 as-fours c =
     let one = four-at-four4 c .four .ensures in
     let two = four2-at-four4 c .four2 .ensures in
     let three = four3-at-four4 c .four3 .ensures in
-    ap₂ (λ (n : ℕ) (ns : List ℕ). n ∷ ns) one (ap₂ (λ (n : ℕ) (ns : List ℕ). n ∷ ns) two (ap₂ (λ (n m : ℕ). n ∷ m ∷ []) three (c .four4 .ensures)))
+    ap₂ (λ (n : ℕ) (ns : List ℕ). n ∷ ns) one
+    (ap₂ (λ (n : ℕ) (ns : List ℕ). n ∷ ns) two (ap₂ (λ (n m : ℕ). n ∷ m ∷ []) three (c .four4 .ensures)))
 
 returns : tie.Need-returns
 returns c =
