@@ -1,4 +1,6 @@
 // What the calls answer: which of what is lent doesn't fit, the state at the start of a job, and what a call gives back.
+#![tactic(auto)]
+
 ghost use Rattle.std.specs.Prelude.{◌≡◌, ◌+◌, ◌≤◌};
 ghost use Rattle.sheet.specs.Edition.{described};
 ghost use Rattle.printer.specs.declared.Printer.{Printer};

@@ -1,4 +1,6 @@
 // What a byte is by itself: which print, which are columns in plot mode, and which go on with ESC [.
+#![tactic(auto)]
+
 ghost use Rattle.std.specs.Prelude.{◌≡◌};
 ghost use Rattle.printer.specs.Alone.{prints};
 ghost use Rattle.printer.specs.Brackets.{continues};

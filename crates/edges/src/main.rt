@@ -1,5 +1,7 @@
 // Runs the edges of the library's calls: performs each case of the table that comes on standard input, and writes a line for each. Document 01, "What a call
 // gives back". The table's head says how it is written.
+#![tactic(auto)]
+
 use libc::STDIN_FILENO;
 use report::{say, unread, unwritten};
 use walk::walk;

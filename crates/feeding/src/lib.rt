@@ -1,4 +1,6 @@
 // Feeding for programs in other languages: a piece of a job fed to a state that is kept as words, and reported in words.
+#![tactic(auto)]
+
 ghost use Rattle.std.specs.Prelude.{◌≡◌, true, [], ◌∷◌, length, ◌≤◌};
 ghost use Rattle.words.specs.Words.{is_state};
 ghost use Rattle.feeding.specs.Feeding.{called, feed_call, refused_or, report_size};

@@ -1,5 +1,7 @@
 // Lists a job: the notes and the finished forms of the bytes that come on standard input. Document 01, "The listing program". With the word 6215 the
 // job is a 6215's.
+#![tactic(auto)]
+
 ghost use Rattle.std.specs.Prelude.{◌≡◌, length};
 ghost use Rattle.sheet.specs.Edition.{longest_page};
 

@@ -1,4 +1,6 @@
 // The printer: its state, what it can't obey, and what comes of a byte.
+#![tactic(auto)]
+
 use sheet::{Form, Line, Model, Pitch, Row};
 
 // The bytes of the staging store, of the download store and of the resident font.
@@ -8,7 +10,7 @@ pub const STORE_BYTES: usize = 2048;
 pub const JOB_LIMIT: u32 = 4294967295;
 
 // Where the head stands, and what the line in progress is. `plotted`: a plot line; `plotting`: plot mode.
-#[derive(Drop)]
+#[derive(Clone, Copy)]
 pub struct Head {
     pub row: Row,
     pub column: usize,
@@ -18,7 +20,7 @@ pub struct Head {
 }
 
 // How characters are entered: the pitch and the features.
-#[derive(Drop)]
+#[derive(Clone, Copy)]
 pub struct Style {
     pub pitch: Pitch,
     pub elongated: bool,
@@ -27,7 +29,7 @@ pub struct Style {
 }
 
 // A download whose payload is coming: how much was announced, for which address, how much is there and what it sums to.
-#[derive(Drop)]
+#[derive(Clone, Copy)]
 pub struct Load {
     pub count: u16,
     pub address: u16,
@@ -36,14 +38,14 @@ pub struct Load {
 }
 
 // A number of a command that ESC [ begins: omitted so far, or given so far.
-#[derive(Drop)]
+#[derive(Clone, Copy)]
 pub enum Setting {
     Omitted,
     Given(u16),
 }
 
 // The numbers of a command that ESC [ begins, as far as they came, and the semicolons among them.
-#[derive(Drop)]
+#[derive(Clone, Copy)]
 pub struct Settings {
     pub first: Setting,
     pub second: Setting,
@@ -52,7 +54,7 @@ pub struct Settings {
 }
 
 // The command whose last byte has not come, with the place of its first byte and all that is needed of its bytes so far.
-#[derive(Drop)]
+#[derive(Clone, Copy)]
 pub enum Pending {
     Nothing,
     Escape(u32),
@@ -69,14 +71,14 @@ pub enum Pending {
 }
 
 // The vertical tabs: bit n − 1 of the two words, counted from the low one's lowest, is line n's.
-#[derive(Drop)]
+#[derive(Clone, Copy)]
 pub struct TabSet {
     pub low: u64,
     pub high: u64,
 }
 
 // The state. `job` counts the bytes of the job so far.
-#[derive(Drop)]
+#[derive(Clone, Copy)]
 pub struct Printer {
     pub model: Model,
     pub form: Form,
@@ -88,28 +90,28 @@ pub struct Printer {
 }
 
 // Where the pending command began: the place of its first byte.
-#[derive(Drop)]
+#[derive(Clone, Copy)]
 pub enum Begun {
     Nowhere,
     At(u32),
 }
 
 // The first of some lines that has a tab.
-#[derive(Drop)]
+#[derive(Clone, Copy)]
 pub enum NextTab {
     Tabbed(Line),
     Untabbed,
 }
 
 // What came of a byte or a command: the state after it, and the event.
-#[derive(Drop)]
+#[derive(Clone, Copy)]
 pub struct Stepped {
     pub printer: Printer,
     pub event: Event,
 }
 
 // Why a byte or a command can't be obeyed.
-#[derive(Drop)]
+#[derive(Clone, Copy)]
 pub enum Fault {
     UnknownCommand,
     LineFull,
@@ -126,7 +128,7 @@ pub enum Fault {
 }
 
 // What comes of a byte: nothing to tell, a finished form, or a note with its fault and place.
-#[derive(Drop)]
+#[derive(Clone, Copy)]
 pub enum Event {
     Quiet,
     Finished,
@@ -134,7 +136,7 @@ pub enum Event {
 }
 
 // What closing answers: the state is unsound, a command is unfinished that began at a place, the line is unprinted, or the job is clean.
-#[derive(Drop)]
+#[derive(Clone, Copy)]
 pub enum Closing {
     Unsound,
     Unfinished(u32),

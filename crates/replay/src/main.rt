@@ -1,4 +1,6 @@
 // Replays scripts: each has a model, a form, a font and the pieces of a job, and what comes of every call is written a line each.
+#![tactic(auto)]
+
 ghost use Rattle.std.specs.Prelude.{◌≡◌, ◌+◌, ◌*◌, ◌≤◌, length, slice_index};
 ghost use Rattle.sheet.specs.Edition.{longest_page};
 

@@ -1,4 +1,6 @@
 // The lines in which a program tells of a job.
+#![tactic(auto)]
+
 use libc::{STDERR_FILENO, STDOUT_FILENO};
 use printer::Fault;
 use protocol::numbers::note_number;

@@ -1,15 +1,17 @@
 // Runs of like bytes, taken at one go: characters, plotted columns, payload. What a run leads to is what its bytes lead to one by one.
+#![tactic(auto)]
+
 use printer::Printer;
 
 // The state after a run, and how many bytes of the piece it was.
-#[derive(Drop)]
+#[derive(Clone, Copy)]
 pub struct Ran {
     pub printer: Printer,
     pub taken: usize,
 }
 
 // Where a single byte has brought the head, if it goes on a run.
-#[derive(Drop)]
+#[derive(Clone, Copy)]
 pub enum Reached {
     Nowhere,
     At(usize),

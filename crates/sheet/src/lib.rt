@@ -1,19 +1,20 @@
 // The sheet: a form's lines, its rows of dots, and the positions in a row. Document 01, "The sheet".
+#![tactic(auto)]
 
 // A line of a form, counted from 1.
-#[derive(Drop)]
+#[derive(Clone, Copy)]
 pub struct Line(pub usize);
 
 // A row of dots of a form, counted from 0 at the top.
-#[derive(Drop)]
+#[derive(Clone, Copy)]
 pub struct Row(pub usize);
 
 // A position in a row of dots, counted from 0 at the left.
-#[derive(Drop)]
+#[derive(Clone, Copy)]
 pub struct Grid(pub usize);
 
 // A form: how many lines it has, how many lines stand in an inch, and the lines of its margins, the first and the last to print on.
-#[derive(Drop)]
+#[derive(Clone, Copy)]
 pub struct Form {
     pub lines: usize,
     pub spacing: usize,
@@ -22,14 +23,14 @@ pub struct Form {
 }
 
 // The editions of the printer.
-#[derive(Drop)]
+#[derive(Clone, Copy)]
 pub enum Model {
     Lp2,
     Dg6215,
 }
 
 // How far apart the columns of a line stand.
-#[derive(Drop)]
+#[derive(Clone, Copy)]
 pub enum Pitch {
     Normal,
     Compressed,

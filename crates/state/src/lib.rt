@@ -1,4 +1,6 @@
 // The state: its tabs, one part of it changed, which states are sound, and what is said of a job that is closed.
+#![tactic(auto)]
+
 pub mod parts;
 mod soundness;
 pub mod tabs;

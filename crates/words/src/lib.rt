@@ -1,4 +1,6 @@
 // A state as the words that a caller keeps.
+#![tactic(auto)]
+
 ghost use Rattle.std.specs.Prelude.{◌≡◌, true, [], ◌∷◌, ◌++◌, ◌+◌, ◌≤◌, ◌<◌, get_or, length, take};
 ghost use Rattle.sheet.specs.Form.{new_form};
 ghost use Rattle.printer.specs.Machine.{limit, new_printer};
