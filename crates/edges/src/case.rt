@@ -5,7 +5,7 @@ use sheet::sizes::LP2_LINE_NUMBERS;
 use words::STATE_WORDS;
 
 // How much of each part of the memory is lent.
-#[derive(Drop)]
+#[derive(Clone, Copy)]
 pub struct Sizes {
     pub page: usize,
     pub line: usize,
@@ -16,7 +16,7 @@ pub struct Sizes {
 
 // `kind`: the line's first word. `state`, `other`: a state as the words of `words`, and the one before the word `with`. `sends`, `count`: whether there
 // is a piece, and of how many bytes. `view`: the word for what is told of the memory, from `first` to `last`. `known`: whether the line is understood so far.
-#[derive(Drop)]
+#[derive(Clone, Copy)]
 pub struct Case {
     pub kind: u64,
     pub state: [u64; STATE_WORDS],

@@ -4,47 +4,47 @@ use printer::Closing;
 use report::{say, say_number};
 
 // Writes words, what a feeding answered and how many bytes it took, and of a note its number and place.
-pub fn say_feeding(words: &[u8], t: Told) -> bool {
-    if !say_number(words, t.answer) {
+pub fn say_feeding(rt: &(impl Print + Eprint), words: &[u8], t: Told) -> bool {
+    if !say_number(rt, words, t.answer) {
         return false;
     }
-    if !say_number(b" ", t.taken as u64) {
+    if !say_number(rt, b" ", t.taken as u64) {
         return false;
     }
     if t.answer != 2 {
         return true;
     }
-    say_number(b" note ", t.note) && say_number(b" at ", t.place)
+    say_number(rt, b" note ", t.note) && say_number(rt, b" at ", t.place)
 }
 
 // Writes whether the memory or the state is the same as before.
-pub fn say_same(words: &[u8], same: bool) -> bool {
+pub fn say_same(rt: &(impl Print + Eprint), words: &[u8], same: bool) -> bool {
     if same {
-        say(words) && say(b" same")
+        say(rt, words) && say(rt, b" same")
     } else {
-        say(words) && say(b" changed")
+        say(rt, words) && say(rt, b" changed")
     }
 }
 
 // Writes words and how a job closes, and ends the line.
-pub fn say_closing(words: &[u8], closing: Closing) -> bool {
-    if !say(words) {
+pub fn say_closing(rt: &(impl Print + Eprint), words: &[u8], closing: Closing) -> bool {
+    if !say(rt, words) {
         return false;
     }
     match closing {
-        Closing::Clean => say(b"CLEAN\n"),
-        Closing::Unprinted => say(b"LINE\n"),
-        Closing::Unfinished(place) => say_number(b"OPEN ", place as u64) && say(b"\n"),
-        Closing::Unsound => say(b"10\n"),
+        Closing::Clean => say(rt, b"CLEAN\n"),
+        Closing::Unprinted => say(rt, b"LINE\n"),
+        Closing::Unfinished(place) => say_number(rt, b"OPEN ", place as u64) && say(rt, b"\n"),
+        Closing::Unsound => say(rt, b"10\n"),
     }
 }
 
 // Writes a line's kind and name.
-pub fn say_name(kind: &[u8], name: &[u8]) -> bool {
-    say(b"EDGE ") && say(kind) && say(name)
+pub fn say_name(rt: &(impl Print + Eprint), kind: &[u8], name: &[u8]) -> bool {
+    say(rt, b"EDGE ") && say(rt, kind) && say(rt, name)
 }
 
 // Writes that a line of the table is not understood.
-pub fn say_unknown(number: u64) -> bool {
-    say_number(b"EDGE line ", number) && say(b" not understood\n")
+pub fn say_unknown(rt: &(impl Print + Eprint), number: u64) -> bool {
+    say_number(rt, b"EDGE line ", number) && say(rt, b" not understood\n")
 }

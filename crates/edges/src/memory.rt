@@ -92,7 +92,7 @@ fn is_as(first: u8, spare: usize, page: &[u8], line: &[u16], staging: &[u8], sto
 }
 
 // What a call gave back: the number of its answer, the bytes taken, and a note's number and place.
-#[derive(Drop)]
+#[derive(Clone, Copy)]
 pub struct Told {
     pub answer: u64,
     pub taken: usize,
@@ -199,7 +199,7 @@ fn wide_number(number: u16) -> u64 {
 
 // What is seen of the memory: whether all of it is as it was marked, whether its exact lengths are blank, and what is in staging and in the line store at a
 // place.
-#[derive(Drop)]
+#[derive(Clone, Copy)]
 pub struct Seen {
     pub same: bool,
     pub blank: bool,
@@ -227,7 +227,7 @@ fn look(first: u8, place: usize, page: &[u8], line: &[u16], staging: &[u8], stor
 }
 
 // What came of a case: what its call gave back, with the state, the offer of the piece's rest after it, and what is then seen of the memory.
-#[derive(Drop)]
+#[derive(Clone, Copy)]
 pub struct Tried {
     pub fed: Told,
     pub state: [u64; STATE_WORDS],

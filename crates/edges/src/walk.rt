@@ -9,7 +9,7 @@ use crate::setting::set;
 use crate::table::{SEND, WITH};
 
 // A number of the table, or letters that are none.
-#[derive(Drop)]
+#[derive(Clone, Copy)]
 enum Number {
     Is(usize),
     Wrong,
@@ -142,39 +142,46 @@ fn read_case(kind: u64, text: &[u8], piece: &mut [u8; 64]) -> Case {
 }
 
 // Writes a case's name and performs it, if its line is understood, or says that it is not.
-fn perform_known(c: Case, bytes: &[u8; 64], kind: &[u8], name: &[u8], number: u64) -> bool {
+fn perform_known(
+    rt: &(impl Print + Eprint),
+    c: Case,
+    bytes: &[u8; 64],
+    kind: &[u8],
+    name: &[u8],
+    number: u64,
+) -> bool {
     if !c.known {
-        return say_unknown(number);
+        return say_unknown(rt, number);
     }
-    say_name(kind, name) && perform(c, bytes)
+    say_name(rt, kind, name) && perform(rt, c, bytes)
 }
 
 // Reads the case of a line, which has a colon before its name, and performs it.
-fn perform_line(line: &[u8], number: u64) -> bool {
+fn perform_line(rt: &(impl Print + Eprint), line: &[u8], number: u64) -> bool {
     let end = find(line, 0, b' ');
     let colon = find(line, end, b':');
     if colon == line.len() {
-        return say_unknown(number);
+        return say_unknown(rt, number);
     }
     let name = colon + 1;
     let kind = read_word(&line[0..end]);
     let mut piece = [0u8; 64];
     let c = read_case(kind, &line[end..colon], &mut piece);
-    perform_known(c, &piece, &line[0..end], &line[name..], number)
+    perform_known(rt, c, &piece, &line[0..end], &line[name..], number)
 }
 
 // Performs every line but the empty ones and comments, which start with #. The last line ends as the others do.
-pub fn walk(table: &[u8]) -> bool {
+pub fn walk(rt: &(impl Print + Eprint), table: &[u8]) -> bool {
     let mut number = 0;
     let mut at = 0;
     while at < table.len() {
         let end = find(table, at, b'\n');
         number = std::num::wrapping_add_u64(number, 1);
         if end == table.len() {
-            return say_unknown(number);
+            return say_unknown(rt, number);
         }
         if end > at && table[at] != b'#' {
-            if !perform_line(&table[at..end], number) {
+            if !perform_line(rt, &table[at..end], number) {
                 return false;
             }
         }

@@ -4,19 +4,19 @@
 ghost use Rattle.std.specs.Prelude.{◌≡◌, ◌+◌, ◌*◌, ◌≤◌, length, slice_index};
 ghost use Rattle.sheet.specs.Edition.{longest_page};
 
-use libc::STDIN_FILENO;
 use lines::say_line;
 use printer::STORE_BYTES;
-use report::{say, unread, unwritten};
+use report::{say, unread};
 use script::perform;
 use sheet::sizes::{DG6215_LINE_NUMBERS, LONGEST_PAGE};
+use std::io::Read;
 
 mod lines;
 mod script;
 mod sums;
 
 // What came of filling a store from standard input.
-#[derive(Drop)]
+#[derive(Clone, Copy)]
 enum Filled {
     Whole,
     Short,
@@ -24,7 +24,7 @@ enum Filled {
 }
 
 // What came where a script's length is due.
-#[derive(Drop)]
+#[derive(Clone, Copy)]
 enum Length {
     Bytes(usize),
     Missing,
@@ -32,7 +32,7 @@ enum Length {
 }
 
 // How the program goes on after a script.
-#[derive(Drop)]
+#[derive(Clone, Copy)]
 enum Next {
     More,
     End,
@@ -41,18 +41,15 @@ enum Next {
 }
 
 // Fills a store from standard input, as far as that goes.
-fn fill(bytes: &mut [u8]) -> Filled {
+fn fill(input: &mut impl Read, bytes: &mut [u8]) -> Filled {
     let mut done = 0;
     while done < bytes.len() {
-        let got = libc::read(STDIN_FILENO, &mut bytes[done..]);
-        if got < 0 {
-            return Filled::Unread;
+        let got = input.read(&mut bytes[done..]);
+        match got {
+            Ok(0) => return Filled::Short,
+            Ok(more) => done += more,
+            Err(_) => return Filled::Unread,
         }
-        let more = io::count(got, &bytes[done..]);
-        if more == 0 {
-            return Filled::Short;
-        }
-        done += more;
     }
     Filled::Whole
 }
@@ -76,9 +73,9 @@ fn number_of(bytes: &[u8; 4]) -> usize
 }
 
 // Reads a script's length.
-fn read_length() -> Length {
+fn read_length(input: &mut impl Read) -> Length {
     let mut bytes = [0u8; 4];
-    let filled = fill(&mut bytes);
+    let filled = fill(input, &mut bytes);
     match filled {
         Filled::Whole => Length::Bytes(number_of(&bytes)),
         Filled::Short => Length::Missing,
@@ -111,18 +108,25 @@ fn goes_on(next: Next) -> bool {
 }
 
 // Refuses a script of a size, and skips it if the store could hold it. No script follows a longer one.
-fn refuse(size: usize, store: &mut [u8]) -> Next {
-    if !say(b"REFUSED SCRIPT\n") {
+fn refuse(
+    rt: &(impl Print + Eprint),
+    input: &mut impl Read,
+    size: usize,
+    store: &mut [u8],
+) -> Next {
+    if !say(rt, b"REFUSED SCRIPT\n") {
         return Next::Unwritten;
     }
     if size < store.len() {
-        return after_bytes(fill(&mut store[..size]));
+        return after_bytes(fill(input, &mut store[..size]));
     }
     Next::End
 }
 
 // Reads a script that fills its store, and replays it.
 fn replay_whole(
+    rt: &(impl Print + Eprint),
+    input: &mut impl Read,
     script: &mut [u8],
     page: &mut [u8],
     line: &mut [u16],
@@ -132,15 +136,17 @@ fn replay_whole(
     requires in_bounds { 2051 ≤ length script.old }
     requires page_len { (length page.old ≡ longest_page) × (length line.old ≡ 6800) }
 {
-    let next = after_bytes(fill(script));
+    let next = after_bytes(fill(input, script));
     if goes_on(next) {
-        return after_lines(perform(script, page, line, staging, store));
+        return after_lines(perform(rt, script, page, line, staging, store));
     }
     next
 }
 
 // Reads and replays a script of a size, or refuses one that has no font or is longer than its store.
 fn replay_sized(
+    rt: &(impl Print + Eprint),
+    input: &mut impl Read,
     size: usize,
     script: &mut [u8],
     page: &mut [u8],
@@ -151,16 +157,18 @@ fn replay_sized(
     requires { (length page.old ≡ longest_page) × (length line.old ≡ 6800) }
 {
     if size < 2051 {
-        return refuse(size, script);
+        return refuse(rt, input, size, script);
     }
     if size > script.len() {
-        return refuse(size, script);
+        return refuse(rt, input, size, script);
     }
-    replay_whole(&mut script[..size], page, line, staging, store)
+    replay_whole(rt, input, &mut script[..size], page, line, staging, store)
 }
 
 // Reads and replays the script of a number.
 fn replay_next(
+    rt: &(impl Print + Eprint),
+    input: &mut impl Read,
     number: u64,
     script: &mut [u8],
     page: &mut [u8],
@@ -170,11 +178,11 @@ fn replay_next(
 ) -> Next
     requires { (length page.old ≡ longest_page) × (length line.old ≡ 6800) }
 {
-    let length = read_length();
+    let length = read_length(input);
     match length {
         Length::Bytes(size) => {
-            if say_line(b"SCRIPT ", number) {
-                replay_sized(size, script, page, line, staging, store)
+            if say_line(rt, b"SCRIPT ", number) {
+                replay_sized(rt, input, size, script, page, line, staging, store)
             } else {
                 Next::Unwritten
             }
@@ -186,6 +194,8 @@ fn replay_next(
 
 // Replays every script. Nothing says that an input ends, so the scripts are counted, up to a number that no input reaches.
 fn replay_all(
+    rt: &(impl Print + Eprint),
+    input: &mut impl Read,
     script: &mut [u8],
     page: &mut [u8],
     line: &mut [u16],
@@ -197,7 +207,7 @@ fn replay_all(
     let mut number = 0;
     while number < u64::MAX {
         number += 1;
-        let next = replay_next(number, script, page, line, staging, store);
+        let next = replay_next(rt, input, number, script, page, line, staging, store);
         if !goes_on(next) {
             return next;
         }
@@ -205,32 +215,45 @@ fn replay_all(
     Next::End
 }
 
-// Says so where standard input or standard output failed.
-fn finish(next: Next) {
+// Says so where standard input failed. Where standard output did, that is told already.
+fn finish(rt: &impl Eprint, next: Next) {
     match next {
         Next::More => {}
         Next::End => {}
-        Next::Unread => unread(),
-        Next::Unwritten => unwritten(),
+        Next::Unread => unread(rt),
+        Next::Unwritten => {}
     }
 }
 
 // Lends the memory on.
 fn lend(
+    rt: &(impl Print + Eprint),
+    input: &mut impl Read,
     script: &mut [u8; 262144],
     page: &mut [u8; LONGEST_PAGE],
     line: &mut [u16; DG6215_LINE_NUMBERS],
     staging: &mut [u8; STORE_BYTES],
     store: &mut [u8; STORE_BYTES],
 ) {
-    finish(replay_all(script, page, line, staging, store));
+    finish(
+        rt,
+        replay_all(rt, input, script, page, line, staging, store),
+    );
 }
 
-fn main() {
+fn main(rt: HostRuntime) {
     let mut script = [0u8; 262144];
     let mut page = [0u8; LONGEST_PAGE];
     let mut line = [0u16; DG6215_LINE_NUMBERS];
     let mut staging = [0u8; STORE_BYTES];
     let mut store = [0u8; STORE_BYTES];
-    lend(&mut script, &mut page, &mut line, &mut staging, &mut store);
+    lend(
+        &rt,
+        &mut rt.stdin(),
+        &mut script,
+        &mut page,
+        &mut line,
+        &mut staging,
+        &mut store,
+    );
 }

@@ -16,7 +16,7 @@ use sheet::sizes::{LP2_LINE_NUMBERS, page_size};
 
 // A replay so far: the printer, how many forms are finished, how many bytes of the present piece are taken, whether the job goes on, and whether
 // standard output took every line.
-#[derive(Drop)]
+#[derive(Clone, Copy)]
 struct Replay {
     printer: Printer,
     forms: u64,
@@ -43,16 +43,22 @@ fn with_new_piece(r: Replay) -> Replay {
 }
 
 // Writes a finished form's number and the sum of its page.
-fn tell_form(number: u64, page: &[u8]) -> bool {
-    say_number(b"FORM ", number) && say_sum(b" ", adler(page))
+fn tell_form(rt: &(impl Print + Eprint), number: u64, page: &[u8]) -> bool {
+    say_number(rt, b"FORM ", number) && say_sum(rt, b" ", adler(page))
 }
 
 // Writes what came of a feeding that took so many bytes. Any answer but a piece used up, a finished form or a note ends the job.
-fn tell_feeding(f: Fed, took: usize, forms: u64, page: &[u8]) -> Replay {
+fn tell_feeding(
+    rt: &(impl Print + Eprint),
+    f: Fed,
+    took: usize,
+    forms: u64,
+    page: &[u8],
+) -> Replay {
     let printer = f.printer;
     let taken = f.taken;
     let answer = f.answer;
-    let written = say_feeding(answer, took);
+    let written = say_feeding(rt, answer, took);
     match answer {
         Answer::Finished => {
             let number = std::num::wrapping_add_u64(forms, 1);
@@ -61,7 +67,7 @@ fn tell_feeding(f: Fed, took: usize, forms: u64, page: &[u8]) -> Replay {
                 forms: number,
                 taken,
                 open: true,
-                written: written && tell_form(number, page),
+                written: written && tell_form(rt, number, page),
             }
         }
         Answer::Done | Answer::Noted(_, _) => Replay {
@@ -83,6 +89,7 @@ fn tell_feeding(f: Fed, took: usize, forms: u64, page: &[u8]) -> Replay {
 
 // Feeds the rest of a piece.
 fn feed_rest(
+    rt: &(impl Print + Eprint),
     r: Replay,
     piece: &[u8],
     page: &mut [u8],
@@ -93,7 +100,7 @@ fn feed_rest(
 ) -> Replay {
     let p = r.printer;
     let f = offer(p, piece, r.taken, page, line, staging, store, font);
-    tell_feeding(f, f.taken - r.taken, r.forms, page)
+    tell_feeding(rt, f, f.taken - r.taken, r.forms, page)
 }
 
 // Lends a blank page of the size that is due.
@@ -106,6 +113,7 @@ fn lend_blank(p: Printer, page: &mut [u8])
 
 // Feeds the rest of a piece on the page that is due, and lends a blank one where a form is finished.
 fn feed_due(
+    rt: &(impl Print + Eprint),
     r: Replay,
     piece: &[u8],
     page: &mut [u8],
@@ -118,7 +126,7 @@ fn feed_due(
 {
     let p = r.printer;
     let due = page_due(p);
-    let fed = feed_rest(r, piece, &mut page[..due], line, staging, store, font);
+    let fed = feed_rest(rt, r, piece, &mut page[..due], line, staging, store, font);
     if fed.forms != r.forms {
         let next = fed.printer;
         lend_blank(next, page);
@@ -128,6 +136,7 @@ fn feed_due(
 
 // Feeds a piece: once, and then its rest until that is used up, or no byte of it is taken.
 fn feed_piece(
+    rt: &(impl Print + Eprint),
     before: Replay,
     piece: &[u8],
     page: &mut [u8],
@@ -139,10 +148,10 @@ fn feed_piece(
     requires { length page.old ≡ longest_page }
 {
     let start = with_new_piece(before);
-    let mut r = feed_due(start, piece, page, line, staging, store, font);
+    let mut r = feed_due(rt, start, piece, page, line, staging, store, font);
     while r.taken < piece.len() && goes_on(r) {
         let taken = r.taken;
-        r = feed_due(r, piece, page, line, staging, store, font);
+        r = feed_due(rt, r, piece, page, line, staging, store, font);
         if r.taken <= taken {
             return r;
         }
@@ -167,6 +176,7 @@ fn piece_end(pieces: &[u8], at: usize) -> usize
 
 // Feeds the pieces of a script, up to its end or the job's.
 fn feed_pieces(
+    rt: &(impl Print + Eprint),
     start: Replay,
     pieces: &[u8],
     page: &mut [u8],
@@ -182,23 +192,31 @@ fn feed_pieces(
     while pieces.len() - at >= 2 && goes_on(r) {
         let first = at + 2;
         let end = piece_end(pieces, at);
-        r = feed_piece(r, &pieces[first..end], page, line, staging, store, font);
+        r = feed_piece(rt, r, &pieces[first..end], page, line, staging, store, font);
         at = end;
     }
     r
 }
 
 // Tells what is left, if standard output took every line so far.
-fn tell_left(r: Replay, page: &[u8], line: &[u16], staging: &[u8], store: &[u8]) -> bool {
+fn tell_left(
+    rt: &(impl Print + Eprint),
+    r: Replay,
+    page: &[u8],
+    line: &[u16],
+    staging: &[u8],
+    store: &[u8],
+) -> bool {
     if !r.written {
         return false;
     }
     let printer = r.printer;
-    say_left(printer, page, line, staging, store)
+    say_left(rt, printer, page, line, staging, store)
 }
 
 // Feeds the pieces of a script to a job just opened, and tells what is left.
 fn feed_job(
+    rt: &(impl Print + Eprint),
     printer: Printer,
     pieces: &[u8],
     page: &mut [u8],
@@ -216,14 +234,15 @@ fn feed_job(
         open: true,
         written: true,
     };
-    let r = feed_pieces(start, pieces, page, line, staging, store, font);
+    let r = feed_pieces(rt, start, pieces, page, line, staging, store, font);
     let last = r.printer;
     let due = page_due(last);
-    tell_left(r, &page[..due], line, staging, store)
+    tell_left(rt, r, &page[..due], line, staging, store)
 }
 
 // Opens the job of a script, and feeds it unless the opening is refused. Answers whether standard output took every line.
 fn open_job(
+    rt: &(impl Print + Eprint),
     model: Model,
     lines: usize,
     spacing: usize,
@@ -249,18 +268,19 @@ fn open_job(
     );
     let answer = opened.answer;
     let number = answer_number(answer);
-    if !say_line(b"OPEN ", number) {
+    if !say_line(rt, b"OPEN ", number) {
         return false;
     }
     if number != 0 {
         return true;
     }
     let printer = opened.printer;
-    feed_job(printer, pieces, page, line, staging, store, font)
+    feed_job(rt, printer, pieces, page, line, staging, store, font)
 }
 
 // Replays what a script has after its model: the form, the font and the pieces.
 fn replay_form(
+    rt: &(impl Print + Eprint),
     model: Model,
     script: &[u8],
     page: &mut [u8],
@@ -276,12 +296,13 @@ fn replay_form(
     let pieces = &script[2050..];
     let font = &script[2..2050];
     open_job(
-        model, lines, spacing, pieces, page, line, staging, store, font,
+        rt, model, lines, spacing, pieces, page, line, staging, store, font,
     )
 }
 
 // Replays a script, or refuses it where its first byte is no model's. Answers whether standard output took every line.
 pub fn perform(
+    rt: &(impl Print + Eprint),
     script: &[u8],
     page: &mut [u8],
     line: &mut [u16],
@@ -296,6 +317,7 @@ pub fn perform(
     let rest = &script[1..];
     match model {
         0 => replay_form(
+            rt,
             Model::Lp2,
             rest,
             page,
@@ -303,7 +325,7 @@ pub fn perform(
             staging,
             store,
         ),
-        1 => replay_form(Model::Dg6215, rest, page, line, staging, store),
-        _ => say(b"REFUSED SCRIPT\n"),
+        1 => replay_form(rt, Model::Dg6215, rest, page, line, staging, store),
+        _ => say(rt, b"REFUSED SCRIPT\n"),
     }
 }
