@@ -2,11 +2,7 @@
 use borrow.Author.Rules.{rules}
 use mathlib.Core.List.{[], ◌∷◌}
 use Rattle.words.proofs.Writing.{written_behind}
-use Rattle.feeding.proofs.tell.Statement.{statement}
-use Rattle.feeding.proofs.tell.Tie as tie
+use Rattle.feeding.proofs.tell.Goals as goal
 
-returns : tie.Need-returns
+pub returns : goal.returns
 returns c = let a = c.args in written_behind (a.taken ∷ a.number ∷ a.place ∷ 0 ∷ []) a.report.now 0 c.requires
-
-pub tell-spec : {M : Type 1} → statement M
-tell-spec = tie.close (tie.spec (λ c. search rules) (λ c. search rules) (λ c. search rules) (λ c. search rules) (λ c. search rules) returns)
