@@ -5,14 +5,14 @@ use Rattle.replay.proofs.sums.adler_numbers.Goals as goal
 
 pub loop-i-preserved : goal.loop-i-preserved
 loop-i-preserved c = (
-      c.loop-i.invariant.0
-          ∙ numbers_more c.args.numbers.now c.loop-i.i c.loop-i.first c.loop-i.second c.loop-i-test.true c.high_byte.ensures.value
-          c.low_byte.ensures.value c.reduced-first.ensures.value c.reduced-second.ensures.value c.reduced-first-in-loop-i.ensures.value
-          c.reduced-second-in-loop-i.ensures.value,
-      omega (arith, c.loop-i-test.true),
-      c.reduced-first-in-loop-i.ensures.upper_bound,
-      c.reduced-second-in-loop-i.ensures.upper_bound,
-    )
+  c.loop-i.invariant.0
+      ∙ numbers_more c.args.numbers.now c.loop-i.i c.loop-i.first c.loop-i.second c.loop-i-test.true c.high_byte.ensures.value
+      c.low_byte.ensures.value c.reduced-first.ensures.value c.reduced-second.ensures.value c.reduced-first-in-loop-i.ensures.value
+      c.reduced-second-in-loop-i.ensures.value,
+  omega (arith, c.loop-i-test.true),
+  c.reduced-first-in-loop-i.ensures.upper_bound,
+  c.reduced-second-in-loop-i.ensures.upper_bound,
+)
 
 pub returns : goal.returns
 returns c = sym (c.loop-i.invariant.0 ∙ numbers_summed c.args.numbers.now c.loop-i.i _ _ c.loop-i-test.false)
