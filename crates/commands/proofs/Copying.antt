@@ -1,5 +1,7 @@
 -- Bytes copied into a list: a turn of the loop that copies to its front, and the front of a part of it.
-use Rattle.std.proofs.Common.{◌≡◌, ℕ, suc, ◌+◌, ◌-◌, ◌<◌, ◌≤◌, List, ◌++◌, length, get_or, take, drop, set, sym, ap, ◌∙◌, append-nil, add-one, arith, length-drop, drop_of_length-le, length-take-le, take_all, drop-cons, take-suc, drop-drop}
+use Rattle.std.proofs.Common.{◌≡◌, ℕ, suc, ◌+◌, ◌-◌, ◌<◌, ◌≤◌, List, ◌++◌, length, get_or, take, drop}
+use Rattle.std.proofs.Common.{set, sym, ap, ◌∙◌, append-nil, add-one, arith}
+use Rattle.std.proofs.Common.{length-drop, drop_of_length-le, length-take-le, take_all, drop-cons, take-suc, drop-drop}
 use lib.Seq.{append_snoc, set_at}
 use Rattle.printer.specs.Downloads.{replaced}
 

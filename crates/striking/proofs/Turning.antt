@@ -9,7 +9,8 @@ use native.Mathlib.Nat.{add-zero, zero-add, div-eq_of_lt, mod-eq_of_lt, mod-lt}
 use native.Mathlib.Decide.{dec_lt}
 use lib.Dec.{T, lit<, eqb, eqb→eq, leb, leb→le, nleb→lt, ltb, ltb→lt, nltb→le}
 use lib.Pow.{pow-add, pow_mono, pow_pos, shl-shr, shr-shr, high, low}
-use lib.Bits.{bit_and, bit_or, and_mask, and_mod, and_shr, and_zero_r, bit_xor, xor_add_and, xor_comm, xor_lt, xor_mod, xor_self, xor_shr, xor_zero_l, xor_zero_r}
+use lib.Bits.{bit_and, bit_or, and_mask, and_mod, and_shr, and_zero_r, bit_xor}
+use lib.Bits.{xor_add_and, xor_comm, xor_lt, xor_mod, xor_self, xor_shr, xor_zero_l, xor_zero_r}
 use lib.ListN.{length, get_or, take, drop, length-take, get_or-eq_default, get_or-map}
 use lib.Seq.{drop-cons, drop-drop, take-add}
 use Rattle.sheet.specs.Dots.{bit, blacken_all, mark_if}

@@ -23,22 +23,23 @@ lent c p = let a = c.args in machine p a.page.now a.line.now a.staging.now a.sto
 
 -- past the first test the lines are in range, past the second the spacing is
 lines-right : (c : Else-not-lines_allowed) → lines_allowed (described c.args.model) c.args.lines ≡ true
-lines-right c = sym c.lines_allowed.ensures ∙ not-false c.lines_allowed.result c.if-not-lines_allowed.false-raw
+lines-right c = sym c.lines_allowed.ensures ∙ c.if-not-lines_allowed.false
 
 spacing-right : (c : Else-not-spacing_allowed) → spacing_allowed c.args.spacing ≡ true
-spacing-right c = sym c.spacing_allowed.ensures ∙ not-false c.spacing_allowed.result c.if-not-spacing_allowed.false-raw
+spacing-right c = sym c.spacing_allowed.ensures ∙ c.if-not-spacing_allowed.false
 
 pub returns-then-not-lines_allowed : goal.returns-then-not-lines_allowed
 returns-then-not-lines_allowed c p =
     ap (λ (o : Opening). o.answer)
     (open_lines _ _ _ _ (lent (goal.at.returns-then-not-lines_allowed c).Start p)
-    (sym c.lines_allowed.ensures ∙ not-true c.lines_allowed.result c.if-not-lines_allowed.true-raw))
+    (sym c.lines_allowed.ensures ∙ c.if-not-lines_allowed.true))
 
 pub returns-then-not-spacing_allowed : goal.returns-then-not-spacing_allowed
 returns-then-not-spacing_allowed c p =
     ap (λ (o : Opening). o.answer)
-    (open_spacing _ _ _ _ (lent (goal.at.returns-then-not-spacing_allowed c).Start p) (lines-right (goal.at.returns-then-not-spacing_allowed c).Else-not-lines_allowed)
-    (sym c.spacing_allowed.ensures ∙ not-true c.spacing_allowed.result c.if-not-spacing_allowed.true-raw))
+    (open_spacing _ _ _ _ (lent (goal.at.returns-then-not-spacing_allowed c).Start p)
+    (lines-right (goal.at.returns-then-not-spacing_allowed c).Else-not-lines_allowed)
+    (sym c.spacing_allowed.ensures ∙ c.if-not-spacing_allowed.true))
 
 pub fit-fitting-requires : goal.fit-fitting-requires
 fit-fitting-requires c =
@@ -47,20 +48,23 @@ fit-fitting-requires c =
     rw c.new_form-form.ensures (omega (arith, most, (described_bounded a.model).longest))
 
 -- what fits is tested for the form just opened
-fitting : (c : After-fit-fitting) (p : Printer) → let s = c.before.before.before.before.before.before.before.before.before.before.before.before in let a = s.args in
+fitting : (c : After-fit-fitting) (p : Printer) → let s = (goal.at.After-fit-fitting c).Start
+    in let a = s.args in
     c.fit-fitting.result ≡ fit (described a.model) (new_form a.lines a.spacing) a.font.now (lent s p)
 fitting c p =
-    let s = c.before.before.before.before.before.before.before.before.before.before.before.before in
+    let s = (goal.at.After-fit-fitting c).Start in
     same_form (described s.args.model) s.args.font.now (lent s p) (c.fit-fitting.ensures p) c.new_form-form.ensures
 
 pub returns-in-Wrong : goal.returns-in-Wrong
 returns-in-Wrong c p =
     ap (λ (o : Opening). o.answer)
-    (open_misfit _ _ _ _ (lent (goal.at.returns-in-Wrong c).Start p) (lines-right (goal.at.returns-in-Wrong c).Else-not-lines_allowed) (spacing-right (goal.at.returns-in-Wrong c).Else-not-spacing_allowed)
+    (open_misfit _ _ _ _ (lent (goal.at.returns-in-Wrong c).Start p) (lines-right (goal.at.returns-in-Wrong c).Else-not-lines_allowed)
+    (spacing-right (goal.at.returns-in-Wrong c).Else-not-spacing_allowed)
     (fitting (goal.at.returns-in-Wrong c).After-fit-fitting p) c.in-Wrong.is)
 
 pub returns-in-Right : goal.returns-in-Right
 returns-in-Right c p =
     ap (λ (o : Opening). o.answer)
-    (open_done _ _ _ _ (lent (goal.at.returns-in-Right c).Start p) (lines-right (goal.at.returns-in-Right c).Else-not-lines_allowed) (spacing-right (goal.at.returns-in-Right c).Else-not-spacing_allowed)
+    (open_done _ _ _ _ (lent (goal.at.returns-in-Right c).Start p) (lines-right (goal.at.returns-in-Right c).Else-not-lines_allowed)
+    (spacing-right (goal.at.returns-in-Right c).Else-not-spacing_allowed)
     (fitting (goal.at.returns-in-Right c).After-fit-fitting p) c.in-Right.is)

@@ -12,7 +12,8 @@ abbrev lent : Start → Printer → Machine
 lent c p = let a = c.args in machine p a.page.now a.line.now a.staging.now a.store.now
 
 pub returns-then-page-page_bytes : goal.returns-then-page-page_bytes
-returns-then-page-page_bytes c p = let s = (goal.at.returns-then-page-page_bytes c).Start in wrong_page _ s.args.form s.args.font.now (lent s p) c.page_bytes.ensures c.if-page-page_bytes.true
+returns-then-page-page_bytes c p = let s = (goal.at.returns-then-page-page_bytes c).Start in
+    wrong_page _ s.args.form s.args.font.now (lent s p) c.page_bytes.ensures c.if-page-page_bytes.true
 
 pub returns-then-line-line_numbers : goal.returns-then-line-line_numbers
 returns-then-line-line_numbers c p =

@@ -13,7 +13,7 @@ pub loop-i-init : goal.loop-i-init
 loop-i-init c = (omega arith, part-start c.args.m c.args.k c.args.n c.args.state.now)
 
 within : (c : In-loop-i) → c.args.k + c.loop-i.i < length c.args.state.now
-within c = omega (arith, c.before.before, c.loop-i-test)
+within c = omega (arith, c.loop-i, c.loop-i-test)
 
 pub overflow_add-k : goal.overflow_add-k
 overflow_add-k c = omega (arith, (goal.at.overflow_add-k c).Start, within c)

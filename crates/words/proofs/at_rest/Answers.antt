@@ -13,7 +13,7 @@ held1 : (c : Else-state-ne-STATE_WORDS) → eqb (length c.args.state.now) state_
 held1 c = eq-eqb _ state_size c.if-state-ne-STATE_WORDS.false
 
 held2 : (c : Else-not-at_most) → at_most 0 (part 17 6 c.args.state.now) ≡ true
-held2 c = sym c.at_most.ensures ∙ not-false c.at_most.result c.if-not-at_most.false-raw
+held2 c = sym c.at_most.ensures ∙ c.if-not-at_most.false
 
 pub returns-then-state-ne-STATE_WORDS : goal.returns-then-state-ne-STATE_WORDS
 unfolding at_rest
@@ -25,7 +25,7 @@ returns-then-not-at_most c =
     simp (
       held1 (goal.at.returns-then-not-at_most c).Else-state-ne-STATE_WORDS,
       ← c.at_most.ensures,
-      not-true c.at_most.result c.if-not-at_most.true-raw,
+      c.if-not-at_most.true,
     )
 
 pub returns : goal.returns

@@ -10,23 +10,23 @@ use Rattle.words.proofs.in_range.Goals as goal
 use Rattle.words.proofs.in_range.Goals.{After-at_most-4, Else-not-at_most, Else-not-at_most-2, Else-not-at_most-3, Else-not-in_range_before}
 
 held1 : (c : Else-not-in_range_before) → in_range_before c.args.state.now ≡ true
-held1 c = sym c.in_range_before.ensures ∙ not-false c.in_range_before.result c.if-not-in_range_before.false-raw
+held1 c = sym c.in_range_before.ensures ∙ c.if-not-in_range_before.false
 
 held2 : (c : Else-not-at_most) → at_most 11 (part 17 1 c.args.state.now) ≡ true
-held2 c = sym c.at_most.ensures ∙ not-false c.at_most.result c.if-not-at_most.false-raw
+held2 c = sym c.at_most.ensures ∙ c.if-not-at_most.false
 
 held3 : (c : Else-not-at_most-2) → at_most 4294967295 (part 18 1 c.args.state.now) ≡ true
-held3 c = sym c.at_most-2.ensures ∙ not-false c.at_most-2.result c.if-not-at_most-2.false-raw
+held3 c = sym c.at_most-2.ensures ∙ c.if-not-at_most-2.false
 
 held4 : (c : Else-not-at_most-3) → at_most 255 (part 19 1 c.args.state.now) ≡ true
-held4 c = sym c.at_most-3.ensures ∙ not-false c.at_most-3.result c.if-not-at_most-3.false-raw
+held4 c = sym c.at_most-3.ensures ∙ c.if-not-at_most-3.false
 
 pub returns-then-not-in_range_before : goal.returns-then-not-in_range_before
 unfolding in_range
 returns-then-not-in_range_before c =
     simp (
       ← c.in_range_before.ensures,
-      not-true c.in_range_before.result c.if-not-in_range_before.true-raw,
+      c.if-not-in_range_before.true,
     )
 
 pub returns-then-not-at_most : goal.returns-then-not-at_most
@@ -35,7 +35,7 @@ returns-then-not-at_most c =
     simp (
       held1 (goal.at.returns-then-not-at_most c).Else-not-in_range_before,
       ← c.at_most.ensures,
-      not-true c.at_most.result c.if-not-at_most.true-raw,
+      c.if-not-at_most.true,
     )
 
 pub returns-then-not-at_most-2 : goal.returns-then-not-at_most-2
@@ -45,7 +45,7 @@ returns-then-not-at_most-2 c =
       held1 (goal.at.returns-then-not-at_most-2 c).Else-not-in_range_before,
       held2 (goal.at.returns-then-not-at_most-2 c).Else-not-at_most,
       ← c.at_most-2.ensures,
-      not-true c.at_most-2.result c.if-not-at_most-2.true-raw,
+      c.if-not-at_most-2.true,
     )
 
 pub returns-then-not-at_most-3 : goal.returns-then-not-at_most-3
@@ -56,7 +56,7 @@ returns-then-not-at_most-3 c =
       held2 (goal.at.returns-then-not-at_most-3 c).Else-not-at_most,
       held3 (goal.at.returns-then-not-at_most-3 c).Else-not-at_most-2,
       ← c.at_most-3.ensures,
-      not-true c.at_most-3.result c.if-not-at_most-3.true-raw,
+      c.if-not-at_most-3.true,
     )
 
 -- the last test's bound is the one of the kind

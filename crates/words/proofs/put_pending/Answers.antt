@@ -38,7 +38,8 @@ returns-in-Select c =
 pub returns-in-SelectLow : goal.returns-in-SelectLow
 unfolding pending_words
 returns-in-SelectLow c =
-    let whole = wrote_pending c.args.state.now c.in-SelectLow.is (c.six-in-SelectLow.ensures.written, c.six-in-SelectLow.ensures.ranged) in record { written = whole.0; ranged = whole.1 }
+    let whole = wrote_pending c.args.state.now c.in-SelectLow.is (c.six-in-SelectLow.ensures.written, c.six-in-SelectLow.ensures.ranged)
+    in record { written = whole.0; ranged = whole.1 }
 
 pub returns-in-CountHigh : goal.returns-in-CountHigh
 unfolding pending_words
@@ -49,7 +50,8 @@ returns-in-CountHigh c =
 pub returns-in-CountLow : goal.returns-in-CountLow
 unfolding pending_words
 returns-in-CountLow c =
-    let whole = wrote_pending c.args.state.now c.in-CountLow.is (c.six-in-CountLow.ensures.written, c.six-in-CountLow.ensures.ranged) in record { written = whole.0; ranged = whole.1 }
+    let whole = wrote_pending c.args.state.now c.in-CountLow.is (c.six-in-CountLow.ensures.written, c.six-in-CountLow.ensures.ranged)
+    in record { written = whole.0; ranged = whole.1 }
 
 pub returns-in-AddressHigh : goal.returns-in-AddressHigh
 unfolding pending_words
@@ -75,4 +77,5 @@ returns-in-Payload c =
 
 pub returns-in-Bracket : goal.returns-in-Bracket
 returns-in-Bracket c =
-    let whole = wrote_pending c.args.state.now c.in-Bracket.is (c.put_bracket.ensures.written, c.put_bracket.ensures.ranged) in record { written = whole.0; ranged = whole.1 }
+    let whole = wrote_pending c.args.state.now c.in-Bracket.is (c.put_bracket.ensures.written, c.put_bracket.ensures.ranged)
+    in record { written = whole.0; ranged = whole.1 }

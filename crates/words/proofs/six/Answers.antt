@@ -8,7 +8,8 @@ use Rattle.words.proofs.six.Goals as goal
 
 pub returns : goal.returns
 returns c =
-    let a = c.args in record { written = written_behind (a.kind ∷ a.place ∷ a.byte ∷ a.count ∷ a.address ∷ a.taken ∷ []) a.state.now 17 c.requires; ranged = (omega arith, omega arith) }
+    let a = c.args in record
+    { written = written_behind (a.kind ∷ a.place ∷ a.byte ∷ a.count ∷ a.address ∷ a.taken ∷ []) a.state.now 17 c.requires; ranged = (omega arith, omega arith) }
 
 pub bounds-state-21 : goal.bounds-state-21
 bounds-state-21 c = simp length-set (omega arith)

@@ -19,7 +19,7 @@ abbrev told : Start → List ℕ
 told s = s.args.report.now
 
 held : (c : Else-not-is_state) → is_state (state (goal.at.Else-not-is_state c).Start) ≡ true
-held c = sym c.is_state.ensures ∙ not-false c.is_state.result c.if-not-is_state.false-raw
+held c = sym c.is_state.ensures ∙ c.if-not-is_state.false
 
 closed-as-asked : (c : After-close-closing)
     → let s = (goal.at.After-close-closing c).Start in closing_words c.close-closing.result (told s) ≡ close_call (state s) (told s)
@@ -30,7 +30,7 @@ closed-as-asked c =
 pub returns-then-not-is_state : goal.returns-then-not-is_state
 returns-then-not-is_state c =
     let s = (goal.at.returns-then-not-is_state c).Start in
-    close_10 (state s) (told s) (sym c.is_state.ensures ∙ not-true c.is_state.result c.if-not-is_state.true-raw)
+    close_10 (state s) (told s) (sym c.is_state.ensures ∙ c.if-not-is_state.true)
 
 pub state_of-requires : goal.state_of-requires
 state_of-requires c = state_halves _ (held c)

@@ -9,7 +9,8 @@ use Rattle.clocktoad.proofs.calls.put_shut.Goals as goal
 
 pub returns-then-state-eq-STATE_WORDS : goal.returns-then-state-eq-STATE_WORDS
 returns-then-state-eq-STATE_WORDS c =
-    let whole = shut_put _ (omega (arith, c.if-state-eq-STATE_WORDS.true)) (c.put_new.ensures.written, c.put_new.ensures.sound) in record { written = whole.0; sound = whole.1 }
+    let whole = shut_put _ (omega (arith, c.if-state-eq-STATE_WORDS.true)) (c.put_new.ensures.written, c.put_new.ensures.sound)
+    in record { written = whole.0; sound = whole.1 }
 
 pub returns-else-state-eq-STATE_WORDS : goal.returns-else-state-eq-STATE_WORDS
 returns-else-state-eq-STATE_WORDS c =

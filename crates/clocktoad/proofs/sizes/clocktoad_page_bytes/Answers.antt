@@ -8,11 +8,11 @@ use Rattle.clocktoad.proofs.Calling.{size_known, size_unknown}
 use Rattle.clocktoad.proofs.sizes.clocktoad_page_bytes.Goals as goal
 
 pub returns-then-not-is_model : goal.returns-then-not-is_model
-returns-then-not-is_model c = size_unknown _ _ (sym c.is_model.ensures ∙ not-true c.is_model.result c.if-not-is_model.true-raw)
+returns-then-not-is_model c = size_unknown _ _ (sym c.is_model.ensures ∙ c.if-not-is_model.true)
 
 pub returns : goal.returns
 returns c =
     let a = c.args in
     size_known a.model (λ (e : Edition). page_size e a.lines a.spacing)
-    (sym c.is_model.ensures ∙ not-false c.is_model.result c.if-not-is_model.false-raw)
+    (sym c.is_model.ensures ∙ c.if-not-is_model.false)
     c.model_of-known.ensures c.page_size.ensures.value

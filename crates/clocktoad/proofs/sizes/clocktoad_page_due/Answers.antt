@@ -10,10 +10,10 @@ use Rattle.clocktoad.proofs.sizes.clocktoad_page_due.Goals as goal
 use Rattle.clocktoad.proofs.sizes.clocktoad_page_due.Goals.{Else-not-is_state}
 
 held : (c : Else-not-is_state) → is_state c.args.state.now ≡ true
-held c = sym c.is_state.ensures ∙ not-false c.is_state.result c.if-not-is_state.false-raw
+held c = sym c.is_state.ensures ∙ c.if-not-is_state.false
 
 pub returns-then-not-is_state : goal.returns-then-not-is_state
-returns-then-not-is_state c = due_none _ (sym c.is_state.ensures ∙ not-true c.is_state.result c.if-not-is_state.true-raw)
+returns-then-not-is_state c = due_none _ (sym c.is_state.ensures ∙ c.if-not-is_state.true)
 
 pub state_of-requires : goal.state_of-requires
 state_of-requires c = state_halves _ (held c)

@@ -8,21 +8,21 @@ use Rattle.commands.proofs.brackets.reform.Goals as goal
 pub returns-then-not-allowed : goal.returns-then-not-allowed
 returns-then-not-allowed c m =
     let a = c.args in
-    not_allowed (with_printer a.p m) a.form a.place (not-true a.allowed c.if-not-allowed.true-raw) c.noted.ensures
+    not_allowed (with_printer a.p m) a.form a.place c.if-not-allowed.true c.noted.ensures
 
 pub returns-then-not-at_top : goal.returns-then-not-at_top
 returns-then-not-at_top c m =
     let a = c.args in
-    out_of_place (with_printer a.p m) a.form a.place (not-false a.allowed c.if-not-allowed.false-raw)
-    c.at_top.ensures (not-true c.at_top.result c.if-not-at_top.true-raw) c.noted-then-not-at_top.ensures
+    out_of_place (with_printer a.p m) a.form a.place c.if-not-allowed.false
+    c.at_top.ensures c.if-not-at_top.true c.noted-then-not-at_top.ensures
 
 pub reformed-requires : goal.reformed-requires
 reformed-requires c =
-    let s = c in s.requires.allowed_form (not-false s.args.allowed c.if-not-allowed.false-raw)
+    let s = c in s.requires.allowed_form c.if-not-allowed.false
 
 pub returns : goal.returns
 returns c m =
     let a = c.args in
     let t = c in
-    reforms (with_printer a.p m) a.form a.place (not-false a.allowed c.if-not-allowed.false-raw)
-    t.at_top.ensures (not-false t.at_top.result c.if-not-at_top.false-raw) c.finished.ensures c.reformed.ensures
+    reforms (with_printer a.p m) a.form a.place c.if-not-allowed.false
+    t.at_top.ensures c.if-not-at_top.false c.finished.ensures c.reformed.ensures

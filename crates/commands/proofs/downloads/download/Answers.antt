@@ -39,7 +39,8 @@ pub returns-then-not-all_well_formed : goal.returns-then-not-all_well_formed
 returns-then-not-all_well_formed c page line =
     let s = (goal.at.returns-then-not-all_well_formed c).Start in
     wrong_glyph s.args.l s.args.checksum s.args.place (lent s page line) c.wrapping_add_u8.ensures.value
-    c.if-wrapping_add_u8-ne0.false (ranged (goal.at.returns-then-not-all_well_formed c).Else-out_of_range) (failed c.all_well_formed.ensures c.if-not-all_well_formed.true-raw)
+    c.if-wrapping_add_u8-ne0.false (ranged (goal.at.returns-then-not-all_well_formed c).Else-out_of_range)
+    (sym c.all_well_formed.ensures ∙ c.if-not-all_well_formed.true)
     c.noted-then-not-all_well_formed.ensures
 
 pub overflow_sub-at : goal.overflow_sub-at
@@ -53,5 +54,5 @@ returns c page line =
     let s = (goal.at.returns c).Start in
     downloaded s.args.l s.args.checksum s.args.place (lent s page line) c.wrapping_add_u8.ensures.value
     c.if-wrapping_add_u8-ne0.false (ranged (goal.at.returns c).Else-out_of_range)
-    (passed c.all_well_formed.ensures c.if-not-all_well_formed.false-raw) c.quiet.ensures
+    (sym c.all_well_formed.ensures ∙ c.if-not-all_well_formed.false) c.quiet.ensures
     c.replace.ensures

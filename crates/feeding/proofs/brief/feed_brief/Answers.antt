@@ -35,11 +35,11 @@ told s = s.args.report.now
 
 -- past the first test the piece has one byte at most
 short : (c : Else-not-brief) → length c.args.piece.now ≤ 1
-short c = c.brief.ensures (not-false c.brief.result c.if-not-brief.false-raw)
+short c = c.brief.ensures c.if-not-brief.false
 
 -- past the third test the words are at rest, past the fourth the machine is ready
 rests : (c : Else-not-at_rest) → at_rest (lent (goal.at.Else-not-at_rest c).Start).state ≡ true
-rests c = sym c.at_rest.ensures ∙ not-false c.at_rest.result c.if-not-at_rest.false-raw
+rests c = sym c.at_rest.ensures ∙ c.if-not-at_rest.false
 
 -- what feeding a piece is to give
 abbrev fed-piece : Start → List ℕ → Called
@@ -50,7 +50,7 @@ fed-to p s = let a = lent s in machine p a.page a.line a.staging a.store
 
 ready : (c : Else-not-feedable) → let p = c.state_with-p.result in
     Ready (edition_of p) (fed-to p (goal.at.Else-not-feedable c).Start) × (length (lent (goal.at.Else-not-feedable c).Start).font ≡ store_size)
-ready c = c.feedable.ensures (not-false c.feedable.result c.if-not-feedable.false-raw)
+ready c = c.feedable.ensures c.if-not-feedable.false
 
 -- the byte's run, of the machine that was lent
 ran : (c : After-single-reached) → let s = (goal.at.After-single-reached c).Start in
@@ -100,7 +100,8 @@ returns-then-piece-eq0 c =
     let s = (goal.at.returns-then-piece-eq0 c).Start in
     let k = (goal.at.returns-then-piece-eq0 c).After-state_with-p in
     let fed =
-    none_fed (lent s) (told s) (rests (goal.at.returns-then-piece-eq0 c).Else-not-at_rest) c.if-report-ne-REPORT_WORDS.false k.state_with-p.ensures (ready (goal.at.returns-then-piece-eq0 c).Else-not-feedable)
+    none_fed (lent s) (told s) (rests (goal.at.returns-then-piece-eq0 c).Else-not-at_rest) c.if-report-ne-REPORT_WORDS.false
+    k.state_with-p.ensures (ready (goal.at.returns-then-piece-eq0 c).Else-not-feedable)
     (words-held k) c.tell.ensures in
     let none = no_byte s.args.piece.now c.if-piece-eq0.true in
     record { done = λ q. (fed.0 ∙ ap (fed-piece s) (sym none), fed.1 (omega arith)); undone = λ q. absurd (true≢false q) }

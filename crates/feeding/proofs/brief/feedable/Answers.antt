@@ -19,10 +19,10 @@ fed-to s = let a = s.args in machine a.p a.page.now a.line.now a.staging.now a.s
 
 -- past the first test the form is sound, past the second the state
 form-right : (c : Else-not-form_sound) → let p = c.args.p in form_sound (edition_of p) p.form ≡ true
-form-right c = sym c.form_sound.ensures ∙ not-false c.form_sound.result c.if-not-form_sound.false-raw
+form-right c = sym c.form_sound.ensures ∙ c.if-not-form_sound.false
 
 is-sound : (c : Else-not-rest_sound) → sound (edition_of c.args.p) c.args.p ≡ true
-is-sound c = sym c.rest_sound.ensures ∙ not-false c.rest_sound.result c.if-not-rest_sound.false-raw
+is-sound c = sym c.rest_sound.ensures ∙ c.if-not-rest_sound.false
 
 pub returns-then-not-form_sound : goal.returns-then-not-form_sound
 returns-then-not-form_sound c q = absurd (true≢false (sym q))

@@ -30,7 +30,7 @@ told s = s.args.report.now
 
 -- past the first test the words are a state, past the second the report has its length
 held : (c : Else-not-is_state) → is_state (lent (goal.at.Else-not-is_state c).Start).state ≡ true
-held c = sym c.is_state.ensures ∙ not-false c.is_state.result c.if-not-is_state.false-raw
+held c = sym c.is_state.ensures ∙ c.if-not-is_state.false
 
 report-right : (c : Else-report-ne-REPORT_WORDS) → length (told (goal.at.Else-report-ne-REPORT_WORDS c).Start) ≡ report_size
 report-right c = c.if-report-ne-REPORT_WORDS.false
@@ -44,12 +44,13 @@ fed-as-asked : (c : After-feed-fed)
 fed-as-asked c =
     let s = (goal.at.After-feed-fed c).Start in
     let p = read_whole (lent s).state c.pending_read.ensures c.state_with-p.ensures in
-    feeds (lent s) (piece s) (told s) (held (goal.at.After-feed-fed c).Else-not-is_state) p (fed c) (report-right (goal.at.After-feed-fed c).Else-report-ne-REPORT_WORDS) c.feed-fed.ensures
+    feeds (lent s) (piece s) (told s) (held (goal.at.After-feed-fed c).Else-not-is_state) p (fed c)
+    (report-right (goal.at.After-feed-fed c).Else-report-ne-REPORT_WORDS) c.feed-fed.ensures
 
 pub returns-then-not-is_state : goal.returns-then-not-is_state
 returns-then-not-is_state c =
     let s = (goal.at.returns-then-not-is_state c).Start in
-    let whole = feed_10 (lent s) (piece s) (told s) (sym c.is_state.ensures ∙ not-true c.is_state.result c.if-not-is_state.true-raw) in record { outcome = whole.0; sound = whole.1 }
+    let whole = feed_10 (lent s) (piece s) (told s) (sym c.is_state.ensures ∙ c.if-not-is_state.true) in record { outcome = whole.0; sound = whole.1 }
 
 pub state_of-requires : goal.state_of-requires
 state_of-requires c = state_halves _ (held (goal.at.state_of-requires c).Else-not-is_state)
@@ -70,7 +71,8 @@ pub returns-then-refusal : goal.returns-then-refusal
 returns-then-refusal c =
     let s = (goal.at.returns-then-refusal c).Start in
     let f = (goal.at.returns-then-refusal c).After-feed-fed in
-    let whole = fed_refused (lent s) (piece s) (told s) (fed f) (fed-as-asked f) c.answer_number.ensures c.refusal.ensures c.if-refusal.true in record { outcome = whole.0; sound = whole.1 }
+    let whole = fed_refused (lent s) (piece s) (told s) (fed f) (fed-as-asked f) c.answer_number.ensures c.refusal.ensures c.if-refusal.true
+    in record { outcome = whole.0; sound = whole.1 }
 
 pub put-requires : goal.put-requires
 put-requires c = (state_halves _ (held (goal.at.put-requires c).Else-not-is_state)).0

@@ -19,12 +19,12 @@ fed-to s = let a = s.args in machine a.p a.page.now a.line.now a.staging.now a.s
 
 -- past the first test the state is sound
 is-sound : (c : Else-not-sound) → sound (edition_of c.args.p) c.args.p ≡ true
-is-sound c = sym c.sound.ensures ∙ not-false c.sound.result c.if-not-sound.false-raw
+is-sound c = sym c.sound.ensures ∙ c.if-not-sound.false
 
 pub returns-then-not-sound : goal.returns-then-not-sound
 returns-then-not-sound c piece =
     let s = (goal.at.returns-then-not-sound c).Start in
-    unsound_first _ s.args.font.now piece (fed-to s) (sym c.sound.ensures ∙ not-true c.sound.result c.if-not-sound.true-raw)
+    unsound_first _ s.args.font.now piece (fed-to s) (sym c.sound.ensures ∙ c.if-not-sound.true)
 
 pub fit-fitting-requires : goal.fit-fitting-requires
 fit-fitting-requires c =

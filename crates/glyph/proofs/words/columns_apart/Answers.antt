@@ -23,10 +23,14 @@ unfolding apart
 pair c = sym (ap₂ (λ (left right : ℕ). eqb (bit_and left right) 0) c.column.ensures c.column-in-loop-k.ensures)
 
 pub returns-then-column-ne0 : goal.returns-then-column-ne0
-returns-then-column-ne0 c = one_fails _ (omega arith) (pair (goal.at.returns-then-column-ne0 c).After-column-in-loop-k ∙ ne_eqb (common (goal.at.returns-then-column-ne0 c).After-column-in-loop-k) 0 (λ none. omega arith))
+returns-then-column-ne0 c =
+    one_fails _ (omega arith)
+    (pair (goal.at.returns-then-column-ne0 c).After-column-in-loop-k
+    ∙ ne_eqb (common (goal.at.returns-then-column-ne0 c).After-column-in-loop-k) 0 (λ none. omega arith))
 
 pub loop-k-preserved : goal.loop-k-preserved
-loop-k-preserved c = below_more _ _ c.loop-k.invariant (pair (goal.at.loop-k-preserved c).After-column-in-loop-k ∙ eq-eqb (common (goal.at.loop-k-preserved c).After-column-in-loop-k) 0 (omega arith))
+loop-k-preserved c = below_more _ _ c.loop-k.invariant
+    (pair (goal.at.loop-k-preserved c).After-column-in-loop-k ∙ eq-eqb (common (goal.at.loop-k-preserved c).After-column-in-loop-k) 0 (omega arith))
 
 pub loop-k-init : goal.loop-k-init
 loop-k-init c = below_none _

@@ -28,10 +28,10 @@ fed-to c = let a = c.args in machine a.p a.page.now a.line.now a.staging.now a.s
 
 -- past the first test the form is sound, past the second the state
 form-right : (c : Else-not-form_sound) → let p = c.args.p in form_sound (edition_of p) p.form ≡ true
-form-right c = sym c.form_sound.ensures ∙ not-false c.form_sound.result c.if-not-form_sound.false-raw
+form-right c = sym c.form_sound.ensures ∙ c.if-not-form_sound.false
 
 is-sound : (c : Else-not-rest_sound) → sound (edition_of c.args.p) c.args.p ≡ true
-is-sound c = sym c.rest_sound.ensures ∙ not-false c.rest_sound.result c.if-not-rest_sound.false-raw
+is-sound c = sym c.rest_sound.ensures ∙ c.if-not-rest_sound.false
 
 -- where all fits, the machine is ready and the font has its length
 ready : (c : In-Right) → let s = (goal.at.In-Right c).Start in
@@ -58,7 +58,7 @@ pub returns-then-not-form_sound : goal.returns-then-not-form_sound
 returns-then-not-form_sound c =
     let s = (goal.at.returns-then-not-form_sound c).Start in
     let f = c in
-    let no = sym f.form_sound.ensures ∙ not-true f.form_sound.result c.if-not-form_sound.true-raw in
+    let no = sym f.form_sound.ensures ∙ c.if-not-form_sound.true in
     ap (λ (r : Fed). given-fed r (fed-to s)) c.given.ensures ∙ feed_unsound _ _ _ (fed-to s) (form-unsound _ _ no)
 
 pub rest_sound-requires : goal.rest_sound-requires
@@ -69,7 +69,7 @@ returns-then-not-rest_sound c =
     let s = (goal.at.returns-then-not-rest_sound c).Start in
     let r = c in
     ap (λ (f : Fed). given-fed f (fed-to s)) c.given-then-not-rest_sound.ensures
-    ∙ feed_unsound _ _ _ (fed-to s) (sym r.rest_sound.ensures ∙ not-true r.rest_sound.result c.if-not-rest_sound.true-raw)
+    ∙ feed_unsound _ _ _ (fed-to s) (sym r.rest_sound.ensures ∙ c.if-not-rest_sound.true)
 
 pub fit-fitting-requires : goal.fit-fitting-requires
 fit-fitting-requires c =

@@ -15,7 +15,7 @@ use Rattle.job.proofs.calls.page_due.Goals as goal
 use Rattle.job.proofs.calls.page_due.Goals.{Else-not-sound}
 
 is-sound : (c : Else-not-sound) → let p = c.args.p in sound (edition_of p) p ≡ true
-is-sound c = sym c.sound.ensures ∙ not-false c.sound.result c.if-not-sound.false-raw
+is-sound c = sym c.sound.ensures ∙ c.if-not-sound.false
 
 -- and has no more lines than the longest form of either model
 most : (c : Else-not-sound) → c.args.p.form.lines ≤ 112
@@ -26,7 +26,7 @@ most c =
 pub returns-then-not-sound : goal.returns-then-not-sound
 returns-then-not-sound c =
     let p = c.args.p in
-    record { value = sym (none_due _ p (sym c.sound.ensures ∙ not-true c.sound.result c.if-not-sound.true-raw)); upper_bound = search rules }
+    record { value = sym (none_due _ p (sym c.sound.ensures ∙ c.if-not-sound.true)); upper_bound = search rules }
 
 pub page_bytes-requires : goal.page_bytes-requires
 page_bytes-requires c = most (goal.at.page_bytes-requires c).Else-not-sound
@@ -34,4 +34,6 @@ page_bytes-requires c = most (goal.at.page_bytes-requires c).Else-not-sound
 pub returns : goal.returns
 returns c =
     let p = c.args.p in
-    let on = (goal.at.returns c).Else-not-sound in record { value = c.page_bytes.ensures ∙ sym (form_due _ p (is-sound on)); upper_bound = rw c.page_bytes.ensures (page_bytes-most (edition_of p) p.form (described_bounded p.model).bytes (most on)) }
+    let on = (goal.at.returns c).Else-not-sound in
+    record { value = c.page_bytes.ensures ∙ sym (form_due _ p (is-sound on)); upper_bound =
+    rw c.page_bytes.ensures (page_bytes-most (edition_of p) p.form (described_bounded p.model).bytes (most on)) }

@@ -93,7 +93,10 @@ pub shape_of-store-then-at-piece : goal.shape_of-store-then-at-piece
 shape_of-store-then-at-piece c = c.loop-i.invariant.store_kept
 
 pub returns-then-at-piece : goal.returns-then-at-piece
-returns-then-at-piece c = simp c.given.ensures (sym (used_up {m = ran_to (goal.at.returns-then-at-piece c).After-run-ran} (ran (goal.at.returns-then-at-piece c).After-run-ran) (omega (arith, c.if-at-piece.true))))
+returns-then-at-piece c =
+    simp c.given.ensures (sym
+    (used_up {m = ran_to (goal.at.returns-then-at-piece c).After-run-ran} (ran (goal.at.returns-then-at-piece c).After-run-ran)
+    (omega (arith, c.if-at-piece.true))))
 
 pub shape_of-page-then-after : goal.shape_of-page-then-after
 shape_of-page-then-after c = c.loop-i.invariant.page-kept
@@ -110,7 +113,8 @@ shape_of-store-then-after c = c.loop-i.invariant.store_kept
 pub returns-then-after : goal.returns-then-after
 returns-then-after c =
     simp c.given-then-after.ensures
-    (sym (at_limit {m = ran_to (goal.at.returns-then-after c).After-run-ran} (ran (goal.at.returns-then-after c).After-run-ran) (more (goal.at.returns-then-after c).Else-at-piece) c.if-after.true))
+    (sym (at_limit {m = ran_to (goal.at.returns-then-after c).After-run-ran} (ran (goal.at.returns-then-after c).After-run-ran)
+    (more (goal.at.returns-then-after c).Else-at-piece) c.if-after.true))
 
 pub bounds-piece-at : goal.bounds-piece-at
 bounds-piece-at c = more (goal.at.bounds-piece-at c).Else-at-piece
@@ -139,8 +143,9 @@ pub returns-then-not-is_quiet : goal.returns-then-not-is_quiet
 returns-then-not-is_quiet c =
     let s = (goal.at.returns-then-not-is_quiet c).After-step-s in
     simp c.answer_to.ensures
-    (sym (told {m = ran_to (goal.at.After-step-s s).After-run-ran} (ran (goal.at.After-step-s s).After-run-ran) (more (goal.at.After-step-s s).Else-at-piece) (room (goal.at.After-step-s s).Else-after) (stepped s) s.step-s.ensures
-    (sym c.is_quiet.ensures ∙ not-true c.is_quiet.result c.if-not-is_quiet.true-raw)))
+    (sym (told {m = ran_to (goal.at.After-step-s s).After-run-ran} (ran (goal.at.After-step-s s).After-run-ran)
+    (more (goal.at.After-step-s s).Else-at-piece) (room (goal.at.After-step-s s).Else-after) (stepped s) s.step-s.ensures
+    (sym c.is_quiet.ensures ∙ c.if-not-is_quiet.true)))
 
 pub overflow_add-i : goal.overflow_add-i
 overflow_add-i c = omega (arith, more (goal.at.overflow_add-i c).Else-at-piece, (goal.at.overflow_add-i c).Start)
@@ -153,9 +158,10 @@ loop-i-preserved c =
     let s = (goal.at.loop-i-preserved c).After-step-s in
     record {
       underway =
-          after_step {m = ran_to (goal.at.After-step-s s).After-run-ran} (ran (goal.at.After-step-s s).After-run-ran) (more (goal.at.After-step-s s).Else-at-piece) (room (goal.at.After-step-s s).Else-after) (stepped s) s.step-s.ensures
+          after_step {m = ran_to (goal.at.After-step-s s).After-run-ran} (ran (goal.at.After-step-s s).After-run-ran)
+          (more (goal.at.After-step-s s).Else-at-piece) (room (goal.at.After-step-s s).Else-after) (stepped s) s.step-s.ensures
           (described_proper c.args.p.model)
-          (sym c.is_quiet.ensures ∙ not-false c.is_quiet.result c.if-not-is_quiet.false-raw);
+          (sym c.is_quiet.ensures ∙ c.if-not-is_quiet.false);
       page-kept = page-stepped s;
       line_kept = line-stepped s;
       staging-kept = staging-stepped s;

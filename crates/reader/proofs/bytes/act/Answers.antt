@@ -63,7 +63,8 @@ returns-in-SelectLow c =
 
 pub returns-in-CountHigh : goal.returns-in-CountHigh
 unfolding act
-returns-in-CountHigh c = acted (acts (goal.at.returns-in-CountHigh c).Start) c.in-CountHigh.is (c.waiting-in-CountHigh.ensures (lent (goal.at.returns-in-CountHigh c).Start))
+returns-in-CountHigh c =
+    acted (acts (goal.at.returns-in-CountHigh c).Start) c.in-CountHigh.is (c.waiting-in-CountHigh.ensures (lent (goal.at.returns-in-CountHigh c).Start))
 
 pub returns-in-CountLow : goal.returns-in-CountLow
 returns-in-CountLow c =
@@ -72,7 +73,8 @@ returns-in-CountLow c =
 
 pub returns-in-AddressHigh : goal.returns-in-AddressHigh
 unfolding act
-returns-in-AddressHigh c = acted (acts (goal.at.returns-in-AddressHigh c).Start) c.in-AddressHigh.is (c.waiting-in-AddressHigh.ensures (lent (goal.at.returns-in-AddressHigh c).Start))
+returns-in-AddressHigh c =
+    acted (acts (goal.at.returns-in-AddressHigh c).Start) c.in-AddressHigh.is (c.waiting-in-AddressHigh.ensures (lent (goal.at.returns-in-AddressHigh c).Start))
 
 pub returns-in-AddressLow : goal.returns-in-AddressLow
 returns-in-AddressLow c =

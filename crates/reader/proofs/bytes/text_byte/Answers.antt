@@ -80,5 +80,6 @@ pub returns-in-128-to-255 : goal.returns-in-128-to-255
 returns-in-128-to-255 c staging =
     let a = c.args in
     let n : a.b ≡ 127 → ⊥ = λ q. c.in-128-to-255.in_default-own.rest.0.0.0.0.1 (inr (inr q)) in
-    high _ a.font.now a.b a.place (lent (goal.at.returns-in-128-to-255 c).Start staging) (silent (goal.at.returns-in-128-to-255 c).Else-prints) c.noted-in-128-to-255.ensures
+    high _ a.font.now a.b a.place (lent (goal.at.returns-in-128-to-255 c).Start staging) (silent (goal.at.returns-in-128-to-255 c).Else-prints)
+    c.noted-in-128-to-255.ensures
     (omega (arith, c.in-128-to-255.if-b-lt127-own.false))

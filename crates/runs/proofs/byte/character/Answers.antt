@@ -1,4 +1,5 @@
 -- `byte::character`: a byte that prints and whose cell has room is a run of one; another is none.
+use mathlib.Core.Bool.{not}
 use borrow.Author.Rules.{rules}
 use Prim.Native.Nat.{ℕ, ◌+◌, ◌*◌, ◌≤◌}
 use mathlib.Core.Bool.{true}
@@ -48,7 +49,7 @@ returns-then-not-enters c page staging store font e =
 -- the byte prints, and its cell has room on the line
 character : (c : Else-not-enters) → (prints c.args.b ≡ true)
     × (c.args.p.head.column + c.stride-step.result * c.cell.result ≤ c.width-w.result)
-character c = entering _ _ _ c.enters.ensures c.if-not-enters.false-raw
+character c = entering _ _ _ c.enters.ensures (ap not c.if-not-enters.false)
 
 pub enter-requires : goal.enter-requires
 enter-requires c =

@@ -1,4 +1,6 @@
 -- `byte::column`: a byte that is a column and fits is a run of one; another is none.
+use mathlib.Core.Bool.{not}
+use mathlib.Core.Path.{ap}
 use borrow.Author.Rules.{rules}
 use Prim.Native.Nat.{◌+◌, ◌≤◌, ◌<◌}
 use mathlib.Core.Bool.{true}
@@ -31,7 +33,7 @@ returns-then-not-draws c font page staging store =
 -- the byte is a column, and it fits the line
 column : (c : Else-not-draws) → (plots c.args.b ≡ true)
     × (c.args.p.head.column + c.stride.result ≤ c.width-w.result)
-column c = drawing _ _ _ c.draws.ensures c.if-not-draws.false-raw
+column c = drawing _ _ _ c.draws.ensures (ap not c.if-not-draws.false)
 
 place : (c : Else-not-draws) → c.args.p.head.column < (edition_of c.args.p).columns
 place c =

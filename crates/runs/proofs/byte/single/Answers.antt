@@ -49,12 +49,14 @@ returns-then-p-2 c page staging =
 pub character-requires : goal.character-requires
 character-requires c =
     let s = c in
-    (typing (goal.at.character-requires c).Else-p-2, room (goal.at.character-requires c).Else-p-eq-JOB_LIMIT, s.requires.1.column, s.requires.1.line, s.requires.1.store)
+    (typing (goal.at.character-requires c).Else-p-2, room (goal.at.character-requires c).Else-p-eq-JOB_LIMIT, s.requires.1.column,
+    s.requires.1.line, s.requires.1.store)
 
 pub character-requires-else-p-3 : goal.character-requires-else-p-3
 character-requires-else-p-3 c =
     let s = c in
-    (typing (goal.at.character-requires-else-p-3 c).Else-p-2, room (goal.at.character-requires-else-p-3 c).Else-p-eq-JOB_LIMIT, s.requires.1.column, s.requires.1.line, s.requires.1.resident)
+    (typing (goal.at.character-requires-else-p-3 c).Else-p-2, room (goal.at.character-requires-else-p-3 c).Else-p-eq-JOB_LIMIT,
+    s.requires.1.column, s.requires.1.line, s.requires.1.resident)
 
 pub returns-then-p-3 : goal.returns-then-p-3
 returns-then-p-3 c page staging =

@@ -1,4 +1,6 @@
 -- `plots::plot_run`: each byte that is a column and fits leads the machine one column on; the first that is none ends the run.
+use mathlib.Core.Bool.{not}
+use mathlib.Core.Path.{ap}
 use borrow.Author.Rules.{rules}
 use Prim.Native.Nat.{ℕ, ◌+◌, ◌-◌, ◌≤◌, ◌<◌}
 use mathlib.Core.Bool.{true}
@@ -52,7 +54,7 @@ returns c font page staging store =
 -- the byte is a column, and it fits the line
 column : (c : Else-not-draws) → (plots (get_or c.args.piece.now c.loop-k.k 0) ≡ true)
     × (c.loop-k.q.head.column + c.stride-each.result ≤ c.width-w.result)
-column c = drawing _ _ _ c.draws.ensures c.if-not-draws.false-raw
+column c = drawing _ _ _ c.draws.ensures (ap not c.if-not-draws.false)
 
 place : (c : Else-not-draws) → let size = (edition_of c.args.p).columns in
     let at = c.loop-k.q.head.column in (at < size) × (at + c.stride-each.result ≤ size)
@@ -82,7 +84,8 @@ loop-k-preserved c =
       taken = one_more l.invariant.taken i.loop-k-test.true;
       kept = c.or_in.auto.line ∙ l.invariant.kept;
       runs = λ font page staging store. plotted_on _ s.args.p.style c.stride-each.ensures c.width-w.ensures
-          (l.invariant.runs font page staging store) l.invariant.plotting l.invariant.style (inside i) (room i) (column (goal.at.loop-k-preserved c).Else-not-draws)
+          (l.invariant.runs font page staging store) l.invariant.plotting l.invariant.style (inside i) (room i)
+          (column (goal.at.loop-k-preserved c).Else-not-draws)
           c.wires.ensures c.or_in.ensures;
     }
 

@@ -1,4 +1,5 @@
 -- `text::characters`: each byte that prints and whose cell has room leads the machine one character on; the first that does not ends the run.
+use mathlib.Core.Bool.{not}
 use borrow.Author.Rules.{rules}
 use Prim.Native.Nat.{ℕ, ◌+◌, ◌-◌, ◌*◌, ◌≤◌, ◌<◌}
 use mathlib.Core.Bool.{cond, true}
@@ -73,7 +74,7 @@ returns c page staging store font e =
 -- the byte prints, and its cell has room on the line
 character : (c : Else-not-enters) → (prints (get_or c.args.piece.now c.loop-k.k 0) ≡ true)
     × (c.loop-k.q.head.column + c.stride-step.result * c.cell.result ≤ c.width-w.result)
-character c = entering _ _ _ c.enters.ensures c.if-not-enters.false-raw
+character c = entering _ _ _ c.enters.ensures (ap not c.if-not-enters.false)
 
 pub enter-requires : goal.enter-requires
 enter-requires c =

@@ -22,7 +22,8 @@ pub overflow_mul-result : goal.overflow_mul-result
 overflow_mul-result c = omega (arith, above (goal.at.overflow_mul-result c).After-row_bytes, counted (goal.at.overflow_mul-result c).After-row_bytes)
 
 pub overflow_add-result : goal.overflow_add-result
-overflow_add-result c = omega (arith, above (goal.at.overflow_add-result c).After-row_bytes, counted (goal.at.overflow_add-result c).After-row_bytes, c.requires.position_bound)
+overflow_add-result c =
+    omega (arith, above (goal.at.overflow_add-result c).After-row_bytes, counted (goal.at.overflow_add-result c).After-row_bytes, c.requires.position_bound)
 
 pub returns : goal.returns
 unfolding page_byte

@@ -11,12 +11,12 @@ use Rattle.state.proofs.soundness.closing.Goals.{After-begun}
 
 pub returns-then-not-sound : goal.returns-then-not-sound
 unfolding closing
-returns-then-not-sound c = rw (failed c.sound.ensures c.if-not-sound.true-raw)
+returns-then-not-sound c = rw (sym c.sound.ensures ∙ c.if-not-sound.true)
 
 -- where a sound state's command began is known
 began : (c : After-begun) {b : Begun} → c.begun.result ≡ b
     → closing (edition_of c.args.p) c.args.p ≡ close_command b c.args.p.head.fresh
-began c k = closed _ c.args.p (passed c.sound.ensures c.if-not-sound.false-raw) (sym c.begun.ensures ∙ k)
+began c k = closed _ c.args.p (sym c.sound.ensures ∙ c.if-not-sound.false) (sym c.begun.ensures ∙ k)
 
 pub returns-in-At : goal.returns-in-At
 unfolding close_command

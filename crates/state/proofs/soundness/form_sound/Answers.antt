@@ -1,4 +1,5 @@
 -- `soundness::form_sound`: the tests in the order that the definition takes them; the first that fails makes the whole false.
+use mathlib.Core.Path.{sym, ◌∙◌}
 use mathlib.Core.Bool.{Bool, true, ◌&&◌}
 use mathlib.Core.Path.{◌≡◌}
 use borrow.Author.Rules.{rules}
@@ -19,25 +20,26 @@ tests3 e f = tests2 e f && margins_allowed f
 
 held2 : (c : Else-not-spacing_allowed) → let a = c.args in tests2 (described a.model) a.form ≡ true
 held2 c =
-    decides (passed c.lines_allowed.ensures c.if-not-lines_allowed.false-raw)
-    (passed c.spacing_allowed.ensures c.if-not-spacing_allowed.false-raw)
+    decides (sym c.lines_allowed.ensures ∙ c.if-not-lines_allowed.false)
+    (sym c.spacing_allowed.ensures ∙ c.if-not-spacing_allowed.false)
 
 held3 : (c : Else-not-margins_allowed) → let a = c.args in tests3 (described a.model) a.form ≡ true
-held3 c = decides (held2 c.before.before) (passed c.margins_allowed.ensures c.if-not-margins_allowed.false-raw)
+held3 c = decides (held2 (goal.at.Else-not-margins_allowed c).Else-not-spacing_allowed) (sym c.margins_allowed.ensures ∙ c.if-not-margins_allowed.false)
 
 pub returns-then-not-lines_allowed : goal.returns-then-not-lines_allowed
 unfolding form_sound
-returns-then-not-lines_allowed c = rw (failed c.lines_allowed.ensures c.if-not-lines_allowed.true-raw)
+returns-then-not-lines_allowed c = rw (sym c.lines_allowed.ensures ∙ c.if-not-lines_allowed.true)
 
 pub returns-then-not-spacing_allowed : goal.returns-then-not-spacing_allowed
 unfolding form_sound
 returns-then-not-spacing_allowed c =
-    rw (decides (passed c.lines_allowed.ensures c.if-not-lines_allowed.false-raw)
-    (failed c.spacing_allowed.ensures c.if-not-spacing_allowed.true-raw))
+    rw (decides (sym c.lines_allowed.ensures ∙ c.if-not-lines_allowed.false)
+    (sym c.spacing_allowed.ensures ∙ c.if-not-spacing_allowed.true))
 
 pub returns-then-not-margins_allowed : goal.returns-then-not-margins_allowed
 unfolding form_sound
-returns-then-not-margins_allowed c = rw (decides (held2 (goal.at.returns-then-not-margins_allowed c).Else-not-spacing_allowed) (failed c.margins_allowed.ensures c.if-not-margins_allowed.true-raw))
+returns-then-not-margins_allowed c =
+    rw (decides (held2 (goal.at.returns-then-not-margins_allowed c).Else-not-spacing_allowed) (sym c.margins_allowed.ensures ∙ c.if-not-margins_allowed.true))
 
 pub returns-then-brackets : goal.returns-then-brackets
 unfolding form_sound

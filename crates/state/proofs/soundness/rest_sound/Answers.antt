@@ -15,7 +15,8 @@ use Rattle.printer.specs.Sound.{begun, form_sound, fresh_sound, load_sound, plac
 use Rattle.printer.specs.Tabs.{line_tabs}
 use Rattle.state.proofs.Tests.{decides, failed, passed}
 use Rattle.state.proofs.soundness.rest_sound.Goals as goal
-use Rattle.state.proofs.soundness.rest_sound.Goals.{After-place_sound, Else-not-below_top, Else-not-fits, Else-not-fresh_sound, Else-not-load_sound, Else-not-place_sound, Else-not-tabs_sound, Else-width-head, Start}
+use Rattle.state.proofs.soundness.rest_sound.Goals.{After-place_sound, Else-not-below_top, Else-not-fits, Else-not-fresh_sound}
+use Rattle.state.proofs.soundness.rest_sound.Goals.{Else-not-load_sound, Else-not-place_sound, Else-not-tabs_sound, Else-width-head, Start}
 
 -- the tests, and how far they are true: a fact for the place behind each
 abbrev tests1 : Printer → Bool
@@ -43,22 +44,22 @@ abbrev tests8 : Printer → Bool
 tests8 p = tests7 p && fresh_sound p.head
 
 held2 : (c : Else-not-below_top) → tests2 c.args.p ≡ true
-held2 c = decides c.requires (passed c.below_top.ensures c.if-not-below_top.false-raw)
+held2 c = decides c.requires (sym c.below_top.ensures ∙ c.if-not-below_top.false)
 
 held3 : (c : Else-not-fits) → tests3 c.args.p ≡ true
-held3 c = decides (held2 c.before.before.before) (passed c.fits.ensures c.if-not-fits.false-raw)
+held3 c = decides (held2 (goal.at.Else-not-fits c).Else-not-below_top) (sym c.fits.ensures ∙ c.if-not-fits.false)
 
 held4 : (c : Else-width-head) → tests4 c.args.p ≡ true
 held4 c =
     let p = c.args.p in
-    decides (held3 c.before.before.before)
+    decides (held3 (goal.at.Else-width-head c).Else-not-fits)
     (le-leb p.head.column ((edition_of p).width p.style.pitch) (omega (arith, c.if-width-head.false, c.width.ensures)))
 
 held5 : (c : Else-not-tabs_sound) → tests5 c.args.p ≡ true
-held5 c = decides (held4 c.before.before) (passed c.tabs_sound.ensures c.if-not-tabs_sound.false-raw)
+held5 c = decides (held4 (goal.at.Else-not-tabs_sound c).Else-width-head) (sym c.tabs_sound.ensures ∙ c.if-not-tabs_sound.false)
 
 held6 : (c : Else-not-load_sound) → tests6 c.args.p ≡ true
-held6 c = decides (held5 c.before.before) (passed c.load_sound.ensures c.if-not-load_sound.false-raw)
+held6 c = decides (held5 (goal.at.Else-not-load_sound c).Else-not-tabs_sound) (sym c.load_sound.ensures ∙ c.if-not-load_sound.false)
 
 -- the place test is of where the pending command began, which `begun` gave
 placed : (c : After-place_sound)
@@ -66,10 +67,10 @@ placed : (c : After-place_sound)
 placed c = c.place_sound.ensures ∙ ap (place_sound _) c.begun.ensures
 
 held7 : (c : Else-not-place_sound) → tests7 c.args.p ≡ true
-held7 c = decides (held6 c.before.before.before) (passed (placed c.before) c.if-not-place_sound.false-raw)
+held7 c = decides (held6 (goal.at.Else-not-place_sound c).Else-not-load_sound) (sym (placed (goal.at.Else-not-place_sound c).After-place_sound) ∙ c.if-not-place_sound.false)
 
 held8 : (c : Else-not-fresh_sound) → tests8 c.args.p ≡ true
-held8 c = decides (held7 c.before.before) (passed c.fresh_sound.ensures c.if-not-fresh_sound.false-raw)
+held8 c = decides (held7 (goal.at.Else-not-fresh_sound c).Else-not-place_sound) (sym c.fresh_sound.ensures ∙ c.if-not-fresh_sound.false)
 
 -- a form that is sound, and its margins no more than the longest form's lines
 form-right : (c : Start) → let p = c.args.p in SoundForm (edition_of p) p.form
@@ -83,7 +84,7 @@ below_top-requires c =
 
 pub returns-then-not-below_top : goal.returns-then-not-below_top
 unfolding sound
-returns-then-not-below_top c = rw (decides c.requires (failed c.below_top.ensures c.if-not-below_top.true-raw))
+returns-then-not-below_top c = rw (decides c.requires (sym c.below_top.ensures ∙ c.if-not-below_top.true))
 
 pub fits-requires : goal.fits-requires
 fits-requires c =
@@ -92,7 +93,7 @@ fits-requires c =
 
 pub returns-then-not-fits : goal.returns-then-not-fits
 unfolding sound
-returns-then-not-fits c = rw (decides (held2 (goal.at.returns-then-not-fits c).Else-not-below_top) (failed c.fits.ensures c.if-not-fits.true-raw))
+returns-then-not-fits c = rw (decides (held2 (goal.at.returns-then-not-fits c).Else-not-below_top) (sym c.fits.ensures ∙ c.if-not-fits.true))
 
 pub returns-then-width-head : goal.returns-then-width-head
 unfolding sound
@@ -103,19 +104,24 @@ returns-then-width-head c =
 
 pub returns-then-not-tabs_sound : goal.returns-then-not-tabs_sound
 unfolding sound
-returns-then-not-tabs_sound c = rw (decides (held4 (goal.at.returns-then-not-tabs_sound c).Else-width-head) (failed c.tabs_sound.ensures c.if-not-tabs_sound.true-raw))
+returns-then-not-tabs_sound c =
+    rw (decides (held4 (goal.at.returns-then-not-tabs_sound c).Else-width-head) (sym c.tabs_sound.ensures ∙ c.if-not-tabs_sound.true))
 
 pub returns-then-not-load_sound : goal.returns-then-not-load_sound
 unfolding sound
-returns-then-not-load_sound c = rw (decides (held5 (goal.at.returns-then-not-load_sound c).Else-not-tabs_sound) (failed c.load_sound.ensures c.if-not-load_sound.true-raw))
+returns-then-not-load_sound c =
+    rw (decides (held5 (goal.at.returns-then-not-load_sound c).Else-not-tabs_sound) (sym c.load_sound.ensures ∙ c.if-not-load_sound.true))
 
 pub returns-then-not-place_sound : goal.returns-then-not-place_sound
 unfolding sound
-returns-then-not-place_sound c = rw (decides (held6 (goal.at.returns-then-not-place_sound c).Else-not-load_sound) (failed (placed (goal.at.returns-then-not-place_sound c).After-place_sound) c.if-not-place_sound.true-raw))
+returns-then-not-place_sound c =
+    rw (decides (held6 (goal.at.returns-then-not-place_sound c).Else-not-load_sound)
+    (sym (placed (goal.at.returns-then-not-place_sound c).After-place_sound) ∙ c.if-not-place_sound.true))
 
 pub returns-then-not-fresh_sound : goal.returns-then-not-fresh_sound
 unfolding sound
-returns-then-not-fresh_sound c = rw (decides (held7 (goal.at.returns-then-not-fresh_sound c).Else-not-place_sound) (failed c.fresh_sound.ensures c.if-not-fresh_sound.true-raw))
+returns-then-not-fresh_sound c =
+    rw (decides (held7 (goal.at.returns-then-not-fresh_sound c).Else-not-place_sound) (sym c.fresh_sound.ensures ∙ c.if-not-fresh_sound.true))
 
 pub returns : goal.returns
 unfolding sound

@@ -1,4 +1,5 @@
 -- `soundness::sound`: a form that is not sound makes the whole false; of one that is the rest decides.
+use mathlib.Core.Path.{sym, ◌∙◌}
 use borrow.Author.Rules.{rules}
 use mathlib.Core.Bool.{true}
 use mathlib.Core.Path.{◌≡◌}
@@ -9,10 +10,10 @@ use Rattle.state.proofs.soundness.sound.Goals as goal
 
 pub returns-then-not-form_sound : goal.returns-then-not-form_sound
 unfolding sound
-returns-then-not-form_sound c = rw (failed c.form_sound.ensures c.if-not-form_sound.true-raw)
+returns-then-not-form_sound c = rw (sym c.form_sound.ensures ∙ c.if-not-form_sound.true)
 
 pub rest_sound-requires : goal.rest_sound-requires
-rest_sound-requires c = passed c.form_sound.ensures c.if-not-form_sound.false-raw
+rest_sound-requires c = sym c.form_sound.ensures ∙ c.if-not-form_sound.false
 
 pub returns : goal.returns
 returns c = c.rest_sound.ensures

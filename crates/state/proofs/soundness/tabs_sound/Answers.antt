@@ -22,7 +22,7 @@ sounds p = tabs_sound p.form (line_tabs p.tabs) ≡ (eqb (p.tabs.low / 2 ^ p.for
 
 short : (c : After-struct_known-1) → sounds c.args.p
 unfolding tabs_sound
-short c = let start = c.before.before.before in untabbed_low start.args.p.tabs (words start) start.args.p.form.lines (omega arith)
+short c = let start = (goal.at.After-struct_known-1 c).Start in untabbed_low start.args.p.tabs (words start) start.args.p.form.lines (omega arith)
 
 pub returns-then-tabs-lines-eq0 : goal.returns-then-tabs-lines-eq0
 returns-then-tabs-lines-eq0 c = sym (short (goal.at.returns-then-tabs-lines-eq0 c).After-struct_known-1 ∙ decides (eq-eqb _ _ c.if-tabs-lines-eq0.true) refl)

@@ -74,7 +74,8 @@ returns-in-Normal c =
 pub returns-in-Compressed : goal.returns-in-Compressed
 returns-in-Compressed c =
     let told = c.in-Compressed.is in
-    in-pitch (goal.at.returns-in-Compressed c).Start told (c.eight_compressed.ensures _ (begin (goal.at.returns-in-Compressed c).After-page_byte-at Compressed told).top)
+    in-pitch (goal.at.returns-in-Compressed c).Start told
+    (c.eight_compressed.ensures _ (begin (goal.at.returns-in-Compressed c).After-page_byte-at Compressed told).top)
 
 pub four-requires : goal.four-requires
 four-requires c = omega (arith, inside (goal.at.four-requires c).Start)

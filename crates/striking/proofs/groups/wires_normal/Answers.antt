@@ -21,7 +21,9 @@ held start = start.args.low ∷ start.args.high ∷ []
 abbrev page-with : Start → ℕ → List ℕ
 page-with start n = wired lp2 5 (wire_of 4 (held start)) start.args.at start.args.page.now n
 
-eight-joined : (c : After-wire_normal-8) → c.wire_normal-8.new.page ≡ page-with c.before.before.before.before.before.before.before.before.before.before.before.before.before.before.before.before.before.before.before.before.before.before.before.before.before.before.before.before.before.before.before 8
+eight-joined : (c : After-wire_normal-8)
+    → c.wire_normal-8.new.page ≡ page-with
+    (goal.at.After-wire_normal-8 c).Start 8
 unfolding lp2
 eight-joined c =
     eight_wired lp2 5 _ _ _ c.wire_normal.ensures c.wire_normal-2.ensures
@@ -29,9 +31,11 @@ eight-joined c =
     c.wire_normal-5.ensures c.wire_normal-6.ensures
     c.wire_normal-7.ensures c.wire_normal-8.ensures
 
-nine-joined : (c : After-wire_normal-9) → c.wire_normal-9.new.page ≡ page-with c.before.before.before.before.before.before.before.before.before.before.before.before.before.before.before.before.before.before.before.before.before.before.before.before.before.before.before.before.before.before.before.before.before.before.before 9
+nine-joined : (c : After-wire_normal-9)
+    → c.wire_normal-9.new.page ≡ page-with
+    (goal.at.After-wire_normal-9 c).Start 9
 unfolding row_at lp2
-nine-joined c = next_wired lp2 5 _ _ _ 8 (eight-joined c.before.before.before.before) c.wire_normal-9.ensures
+nine-joined c = next_wired lp2 5 _ _ _ 8 (eight-joined (goal.at.After-wire_normal-9 c).After-wire_normal-8) c.wire_normal-9.ensures
 
 pub wire_normal-requires-9 : goal.wire_normal-requires-9
 wire_normal-requires-9 c =

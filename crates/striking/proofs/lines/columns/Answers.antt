@@ -20,7 +20,11 @@ pub eight_columns-requires : goal.eight_columns-requires
 eight_columns-requires c =
     let room = c.requires in
     let walked = c.loop-column.invariant in
-    record { room = record { rows = omega (arith, room.rows, walked.left.kept); full = room.full }; c_value = (walked.whole, below (goal.at.eight_columns-requires c).In-loop-column) }
+    record {
+      room = record { rows = omega (arith, room.rows, walked.left.kept); full = room.full };
+      c_value =
+          (walked.whole, below (goal.at.eight_columns-requires c).In-loop-column);
+    }
 
 pub overflow_add-column : goal.overflow_add-column
 overflow_add-column c = omega (arith, below (goal.at.overflow_add-column c).In-loop-column, (described_proper Lp2).wide c.args.pitch)

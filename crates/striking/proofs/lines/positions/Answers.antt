@@ -20,7 +20,11 @@ pub eighty_positions-requires : goal.eighty_positions-requires
 eighty_positions-requires c =
     let room = c.requires in
     let walked = c.loop-position.invariant in
-    record { room = record { rows = omega (arith, room.rows, walked.left.kept); full = room.full }; c_value = (walked.whole, below (goal.at.eighty_positions-requires c).In-loop-position) }
+    record {
+      room = record { rows = omega (arith, room.rows, walked.left.kept); full = room.full };
+      c_value =
+          (walked.whole, below (goal.at.eighty_positions-requires c).In-loop-position);
+    }
 
 pub overflow_add-position : goal.overflow_add-position
 overflow_add-position c = omega (arith, below (goal.at.overflow_add-position c).In-loop-position, (described_proper Dg6215).wide c.args.pitch)

@@ -22,7 +22,12 @@ unfolding dg6215
 sixteen_positions-requires c =
     let s = (goal.at.sixteen_positions-requires c).Start in
     let l = c.loop-k in
-    let room = s.requires.room in record { room = record { rows = omega (arith, room.rows, l.invariant.left.kept); full = room.full }; c_value = (omega (arith, s.requires.c_value.0, l.invariant.whole), omega (arith, inside s, room.full, l)) }
+    let room = s.requires.room in
+    record {
+      room = record { rows = omega (arith, room.rows, l.invariant.left.kept); full = room.full };
+      c_value =
+          (omega (arith, s.requires.c_value.0, l.invariant.whole), omega (arith, inside s, room.full, l));
+    }
 
 pub overflow_add-c : goal.overflow_add-c
 unfolding dg6215

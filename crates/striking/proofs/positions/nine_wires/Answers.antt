@@ -23,7 +23,9 @@ abbrev page-with : Start → ℕ → List ℕ
 page-with start n =
     wired dg6215 2 (pairs start.args.top start.args.upper start.args.lower) start.args.at start.args.page.now n
 
-eight-joined : (c : After-join_two-8) → c.join_two-8.new.page ≡ page-with c.before.before.before.before.before.before.before.before.before.before.before.before.before.before.before.before.before.before.before.before.before.before.before.before.before.before.before.before.before.before.before 8
+eight-joined : (c : After-join_two-8)
+    → c.join_two-8.new.page ≡ page-with
+    (goal.at.After-join_two-8 c).Start 8
 unfolding dg6215 wire_number
 eight-joined c =
     eight_wired dg6215 2 _ _ _ c.join_two.ensures
@@ -35,9 +37,11 @@ eight-joined c =
     c.join_two-7.ensures
     c.join_two-8.ensures
 
-nine-joined : (c : After-join_two-9) → c.join_two-9.new.page ≡ page-with c.before.before.before.before.before.before.before.before.before.before.before.before.before.before.before.before.before.before.before.before.before.before.before.before.before.before.before.before.before.before.before.before.before.before.before 9
+nine-joined : (c : After-join_two-9)
+    → c.join_two-9.new.page ≡ page-with
+    (goal.at.After-join_two-9 c).Start 9
 unfolding row_at dg6215 wire_number
-nine-joined c = next_wired dg6215 2 _ _ _ 8 (eight-joined c.before.before.before.before) c.join_two-9.ensures
+nine-joined c = next_wired dg6215 2 _ _ _ 8 (eight-joined (goal.at.After-join_two-9 c).After-join_two-8) c.join_two-9.ensures
 
 -- neighbouring positions are one dot apart
 apart : (pitch : Pitch) (k : ℕ) → (dg6215.grid pitch (k + 1)).0 ≡ (dg6215.grid pitch k).0 + 1

@@ -18,14 +18,14 @@ fours-of s = s.args.first ∷ s.args.second ∷ s.args.third ∷ s.args.fourth �
 abbrev apart : ℕ → ℕ → ℕ
 apart x y = made (x ∷ y ∷ []) (differing (number 0) (number 1))
 
-upper_is : (c : After-turned-upper) → c.turned-upper.result ≡ made (fours-of c.before.before.before.before.before.before) two_to_five
+upper_is : (c : After-turned-upper) → c.turned-upper.result ≡ made (fours-of (goal.at.After-turned-upper c).Start) two_to_five
 unfolding made turn turned paired differing left right two_to_five
 upper_is c =
     c.turned-upper.ensures
     ∙ ap₂ (λ (x y : ℕ). made (bit_xor x (apart x y) ∷ []) (turned (number 0))) c.paired-left.ensures
     c.paired-right.ensures
 
-lower-is : (c : After-turned-lower) → c.turned-lower.result ≡ made (fours-of c.before.before.before.before.before.before.before) six_to_nine
+lower-is : (c : After-turned-lower) → c.turned-lower.result ≡ made (fours-of (goal.at.After-turned-lower c).Start) six_to_nine
 unfolding made turn turned paired differing left right six_to_nine
 lower-is c =
     c.turned-lower.ensures
