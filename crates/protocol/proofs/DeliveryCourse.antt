@@ -162,7 +162,7 @@ module _ (e : Edition) (feed : List ℕ → Machine → Feeding) (pieces : List 
 
   -- within each form one feeding leads from each machine to the next
   pub delivery_feeds : (k i : ℕ) → suc i < length (get_or course k [])
-  → OneFeeding feed (get_or (get_or course k []) i m) (get_or (get_or course k []) (suc i) m)
+      → OneFeeding feed (get_or (get_or course k []) i m) (get_or (get_or course k []) (suc i) m)
   delivery_feeds k i lt = fed_at e feed m (get_or course k []) (form_fed e feed m course shown.fed k) i lt
 
   -- the last pages of the forms are the forms that the delivery tells, in order, and then the page that it leaves

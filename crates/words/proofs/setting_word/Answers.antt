@@ -11,4 +11,4 @@ returns-in-Omitted c = rw c.in-Omitted.is (refl, omega arith)
 
 pub returns-in-Given : goal.returns-in-Given
 unfolding setting_word
-returns-in-Given c = rw c.in-Given.is (refl, omega (arith, c.in-Given.known_told-1-own))
+returns-in-Given c = rw c.in-Given.is (refl, omega arith)

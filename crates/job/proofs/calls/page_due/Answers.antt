@@ -35,5 +35,8 @@ pub returns : goal.returns
 returns c =
     let p = c.args.p in
     let on = (goal.at.returns c).Else-not-sound in
-    record { value = c.page_bytes.ensures ∙ sym (form_due _ p (is-sound on)); upper_bound =
-    rw c.page_bytes.ensures (page_bytes-most (edition_of p) p.form (described_bounded p.model).bytes (most on)) }
+    record {
+      value = c.page_bytes.ensures ∙ sym (form_due _ p (is-sound on));
+      upper_bound =
+          rw c.page_bytes.ensures (page_bytes-most (edition_of p) p.form (described_bounded p.model).bytes (most on));
+    }

@@ -14,7 +14,7 @@ use Rattle.runs.proofs.byte.single.Goals.{Else-p-2, Else-p-eq-JOB_LIMIT}
 
 -- past the first test the job has room for the byte, and past the third a byte may be a character
 room : (c : Else-p-eq-JOB_LIMIT) → c.args.p.job < limit
-room c = omega (arith, c.if-p-eq-JOB_LIMIT.false, c.struct_known-1)
+room c = let fits : c.args.p.job < 2 ^ 32 = search rules in omega (arith, c.if-p-eq-JOB_LIMIT.false, fits)
 
 typing : (c : Else-p-2) → Typing c.args.p
 typing c = record { pending = c.requires.0; plotting = c.if-p.false; plotted = c.if-p-2.false }
@@ -48,15 +48,23 @@ returns-then-p-2 c page staging =
 
 pub character-requires : goal.character-requires
 character-requires c =
-    let s = c in
-    (typing (goal.at.character-requires c).Else-p-2, room (goal.at.character-requires c).Else-p-eq-JOB_LIMIT, s.requires.1.column,
-    s.requires.1.line, s.requires.1.store)
+    let s = c in (
+      typing (goal.at.character-requires c).Else-p-2,
+      room (goal.at.character-requires c).Else-p-eq-JOB_LIMIT,
+      s.requires.1.column,
+      s.requires.1.line,
+      s.requires.1.store,
+    )
 
 pub character-requires-else-p-3 : goal.character-requires-else-p-3
 character-requires-else-p-3 c =
-    let s = c in
-    (typing (goal.at.character-requires-else-p-3 c).Else-p-2, room (goal.at.character-requires-else-p-3 c).Else-p-eq-JOB_LIMIT,
-    s.requires.1.column, s.requires.1.line, s.requires.1.resident)
+    let s = c in (
+      typing (goal.at.character-requires-else-p-3 c).Else-p-2,
+      room (goal.at.character-requires-else-p-3 c).Else-p-eq-JOB_LIMIT,
+      s.requires.1.column,
+      s.requires.1.line,
+      s.requires.1.resident,
+    )
 
 pub returns-then-p-3 : goal.returns-then-p-3
 returns-then-p-3 c page staging =

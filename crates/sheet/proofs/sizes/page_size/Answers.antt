@@ -28,8 +28,11 @@ returns-then-not-lines_allowed c =
 
 pub returns-then-not-spacing_allowed : goal.returns-then-not-spacing_allowed
 returns-then-not-spacing_allowed c =
-    record { value = spacing_refused _ _ _ (lines-right (goal.at.returns-then-not-spacing_allowed c).Else-not-lines_allowed)
-    (sym c.spacing_allowed.ensures ∙ c.if-not-spacing_allowed.true); upper_bound = search rules }
+    record {
+      value = spacing_refused _ _ _ (lines-right (goal.at.returns-then-not-spacing_allowed c).Else-not-lines_allowed)
+          (sym c.spacing_allowed.ensures ∙ c.if-not-spacing_allowed.true);
+      upper_bound = search rules;
+    }
 
 -- the form is the one just opened
 new : (c : After-new_form) → let a = c.args in c.new_form.result ≡ new_form a.lines a.spacing
@@ -46,5 +49,8 @@ returns c =
     let spacing-right = sym c.spacing_allowed.ensures ∙ c.if-not-spacing_allowed.false in
     let bytes : c.page_bytes.result ≡ page_bytes e (new_form a.lines a.spacing) =
     c.page_bytes.ensures ∙ ap (page_bytes e) (new (goal.at.returns c).After-new_form) in
-    record { value = bytes ∙ page_sized _ _ _ (lines-right on) spacing-right; upper_bound =
-    rw bytes (page_bytes-most e _ (described_bounded a.model).bytes (most on)) }
+    record {
+      value = bytes ∙ page_sized _ _ _ (lines-right on) spacing-right;
+      upper_bound =
+          rw bytes (page_bytes-most e _ (described_bounded a.model).bytes (most on));
+    }
