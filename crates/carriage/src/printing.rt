@@ -13,8 +13,8 @@ use state::parts::{moved_to, noted, quiet};
 
 // Enters a character in a style, its glyph from the download store or from the resident font.
 fn draw(line: &mut [u16], store: &[u8], font: &[u8], style: Style, b: u8, at: usize, stride: usize)
-    requires le_stride { (1 ≤ stride) × (stride ≤ 5) × (at + stride * cell style.elongated ≤ length line.old) }
-    requires store_len { (length store.now ≡ store_size) × (length font.now ≡ store_size) × (b < 128) }
+    requires room { (1 ≤ stride) × (stride ≤ 5) × (at + stride * cell style.elongated ≤ length line.old) }
+    requires stores { (length store.now ≡ store_size) × (length font.now ≡ store_size) × (b < 128) }
     ensures { line.new ≡ enter (cond style.downloaded store.now font.now) b
         style.elongated style.underscore at stride line.old }
 {

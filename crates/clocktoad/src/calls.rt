@@ -23,10 +23,10 @@ fn open_model(
     store: &mut [u8],
     font: &[u8],
 ) -> u64
-    ensures store_after { called result state.new page.new line.new staging.new store.new []
+    ensures outcome { called result state.new page.new line.new staging.new store.new []
         ≡ model_call model lines spacing font.now state.old page.old
         line.old staging.old store.old }
-    ensures state_after { length state.old ≡ state_size → is_state state.new ≡ true }
+    ensures sound { length state.old ≡ state_size → is_state state.new ≡ true }
 {
     if state.len() != STATE_WORDS {
         return refused_or(
@@ -46,8 +46,8 @@ fn open_model(
 
 // Makes the shut state of an LP2 of words that are as many as a state's.
 fn put_shut(state: &mut [u64])
-    ensures state_after { state.new ≡ shut_words state.old }
-    ensures state_after_2 { length state.old ≡ state_size → is_state state.new ≡ true }
+    ensures written { state.new ≡ shut_words state.old }
+    ensures sound { length state.old ≡ state_size → is_state state.new ≡ true }
 {
     if state.len() == STATE_WORDS {
         put_new(state, Model::Lp2, 0, 0);
@@ -67,10 +67,10 @@ pub extern "C" fn clocktoad_open(
     store: &mut [u8],
     font: &[u8],
 ) -> u64
-    ensures store_after { called result state.new page.new line.new staging.new store.new []
+    ensures outcome { called result state.new page.new line.new staging.new store.new []
         ≡ open_call model lines spacing font.now state.old page.old
         line.old staging.old store.old }
-    ensures state_after { length state.old ≡ state_size → is_state state.new ≡ true }
+    ensures sound { length state.old ≡ state_size → is_state state.new ≡ true }
 {
     if !is_model(model) {
         put_shut(state);
@@ -94,10 +94,10 @@ pub extern "C" fn clocktoad_feed(
     piece: &[u8],
     report: &mut [u64],
 ) -> u64
-    ensures report_after { called result state.new page.new line.new staging.new store.new report.new
+    ensures outcome { called result state.new page.new line.new staging.new store.new report.new
         ≡ feed_call font.now piece.now state.old page.old line.old
         staging.old store.old report.old }
-    ensures state_after { result ≤ 3 → is_state state.new ≡ true }
+    ensures sound { result ≤ 3 → is_state state.new ≡ true }
 {
     feed_words(state, page, line, staging, store, font, piece, report)
 }

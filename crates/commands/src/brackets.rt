@@ -156,7 +156,7 @@ fn at_top(p: Printer) -> bool
 // Another form, where it is allowed and in place; else a note.
 fn reform(p: Printer, allowed: bool, form: Form, place: u32) -> Stepped
     requires sound_form { SoundForm (edition_of p) p.form }
-    requires lines_bound { allowed ≡ true → (form.lines ≤ 112) × (1 ≤ form.top.0) × (form.top.0 ≤ 128) }
+    requires allowed_form { allowed ≡ true → (form.lines ≤ 112) × (1 ≤ form.top.0) × (form.top.0 ≤ 128) }
     ensures { (m : Machine) → over m result ≡ reform allowed form place (with_printer p m) }
 {
     if !allowed {

@@ -62,12 +62,12 @@ pub(crate) fn feed_brief(
     piece: &[u8],
     report: &mut [u64],
 ) -> bool
-    ensures report_after { result ≡ true
+    ensures done { result ≡ true
         → (called 0 state.new page.now line.new staging.now store.now report.new
         ≡ feed_call font.now piece.now state.old page.now line.old
         staging.now store.now report.old)
         × (is_state state.new ≡ true) }
-    ensures state_unchanged { result ≡ false
+    ensures undone { result ≡ false
         → (state.new ≡ state.old) × (line.new ≡ line.old) × (report.new ≡ report.old) }
 {
     if !brief(piece) {

@@ -48,10 +48,10 @@ pub fn feed_words(
     piece: &[u8],
     report: &mut [u64],
 ) -> u64
-    ensures report_after { called result state.new page.new line.new staging.new store.new report.new
+    ensures outcome { called result state.new page.new line.new staging.new store.new report.new
         ≡ feed_call font.now piece.now state.old page.old line.old
         staging.old store.old report.old }
-    ensures state_after { result ≤ 3 → is_state state.new ≡ true }
+    ensures sound { result ≤ 3 → is_state state.new ≡ true }
 {
     if feed_brief(state, page, line, staging, store, font, piece, report) {
         return 0;

@@ -50,10 +50,10 @@ pub(crate) fn feed_piece(
     piece: &[u8],
     report: &mut [u64],
 ) -> u64
-    ensures report_after { called result state.new page.new line.new staging.new store.new report.new
+    ensures outcome { called result state.new page.new line.new staging.new store.new report.new
         ≡ feed_call font.now piece.now state.old page.old line.old
         staging.old store.old report.old }
-    ensures state_after { result ≤ 3 → is_state state.new ≡ true }
+    ensures sound { result ≤ 3 → is_state state.new ≡ true }
 {
     if !is_state(state) {
         return 10;

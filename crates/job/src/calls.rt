@@ -30,7 +30,7 @@ fn start(
     staging: &mut [u8],
     store: &mut [u8],
 ) -> Opened
-    requires le_top { (1 ≤ form.top.0) × (form.top.0 ≤ 128) }
+    requires top { (1 ≤ form.top.0) × (form.top.0 ≤ 128) }
     requires sized { Sized (described model) form page.old line.old staging.old store.old }
     ensures { given_opening result page.new line.new staging.new store.new
         ≡ record { answer = Answer.Done; machine = opened model form } }

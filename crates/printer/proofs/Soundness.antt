@@ -93,6 +93,7 @@ module _ (f : Form) (tabs : List Bool) where
 -- a condition of a test that holds where a flag is set
 if_flag : (b c : Bool) → not b || c ≡ true → T b → c ≡ true
 if_flag true c q t = q
+if_flag false c q t = elim t [ ]
 
 flag_if : (b c : Bool) → (T b → c ≡ true) → not b || c ≡ true
 flag_if true c h = h tt

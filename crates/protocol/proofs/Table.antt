@@ -31,6 +31,7 @@ use Rattle.protocol.proofs.Cutting.{any_cutting_from}
 -- a line that is no plot line is fresh
 fresh-row : (plotted : Bool) → T (not plotted) → (◌≡◌ {A = ℕ} 0 0) × (plotted ≡ false)
 fresh-row false t = (refl, refl)
+fresh-row true t = elim t [ ]
 
 -- 66 lines are a form of either model
 form_allowed : (w : Model) → lines_allowed (described w) 66 ≡ true

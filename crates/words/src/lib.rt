@@ -55,8 +55,8 @@ fn setting_word(setting: Setting) -> u64
 // Writes the six words of what is pending.
 fn six(state: &mut [u64], kind: u64, place: u32, byte: u8, count: u64, address: u64, taken: u64)
     requires { length state.old ≡ state_size }
-    ensures state_after { state.new ≡ take 17 state.old ++ (kind ∷ place ∷ byte ∷ count ∷ address ∷ taken ∷ []) }
-    ensures place_le_limit { (place ≤ limit) × (byte ≤ 255) }
+    ensures written { state.new ≡ take 17 state.old ++ (kind ∷ place ∷ byte ∷ count ∷ address ∷ taken ∷ []) }
+    ensures ranged { (place ≤ limit) × (byte ≤ 255) }
 {
     state[17] = kind;
     state[18] = place as u64;
@@ -69,7 +69,7 @@ fn six(state: &mut [u64], kind: u64, place: u32, byte: u8, count: u64, address: 
 // Writes a command that ESC [ began.
 fn put_bracket(state: &mut [u64], place: u32, settings: Settings)
     requires { length state.old ≡ state_size }
-    ensures state_after { state.new ≡ take 17 state.old ++ pending_words (Bracket place settings) }
+    ensures written { state.new ≡ take 17 state.old ++ pending_words (Bracket place settings) }
     ensures ranged { Ranged (Bracket place settings) }
 {
     let first = settings.first;
@@ -83,7 +83,7 @@ fn put_bracket(state: &mut [u64], place: u32, settings: Settings)
 
 fn put_pending(state: &mut [u64], pending: Pending)
     requires { length state.old ≡ state_size }
-    ensures state_after { state.new ≡ take 17 state.old ++ pending_words pending }
+    ensures written { state.new ≡ take 17 state.old ++ pending_words pending }
     ensures ranged { Ranged pending }
 {
     match pending {
@@ -115,8 +115,8 @@ fn put_pending(state: &mut [u64], pending: Pending)
 // Puts a state into words, which are then a state.
 pub fn put(state: &mut [u64], p: Printer)
     requires { length state.old ≡ state_size }
-    ensures state_after { state.new ≡ state_words p }
-    ensures state_after_2 { is_state state.new ≡ true }
+    ensures written { state.new ≡ state_words p }
+    ensures sound { is_state state.new ≡ true }
 {
     let model = p.model;
     let form = p.form;
@@ -160,8 +160,8 @@ pub fn advance(state: &mut [u64], column: usize)
 // Puts the state of a job just opened into words, which are then a state; of no lines it is the shut one.
 pub fn put_new(state: &mut [u64], model: Model, lines: usize, spacing: usize)
     requires { length state.old ≡ state_size }
-    ensures state_after { state.new ≡ state_words (new_printer model (new_form lines spacing)) }
-    ensures state_after_2 { is_state state.new ≡ true }
+    ensures written { state.new ≡ state_words (new_printer model (new_form lines spacing)) }
+    ensures sound { is_state state.new ≡ true }
 {
     state[0] = model_word(model);
     state[1] = lines as u64;

@@ -1,0 +1,8 @@
+-- `new_printer`: a new printer has no tabs, which are two words of 0.
+use borrow.Author.Rules.{rules}
+use Rattle.printer.specs.Tabs.{no_tabs}
+use Rattle.answers.proofs.new_printer.Goals as goal
+
+pub returns : goal.returns
+unfolding no_tabs
+returns c = simp c.top_row.ensures

@@ -1,0 +1,17 @@
+-- `sizes::clocktoad_line_numbers`: the numbers are those of the model's line store.
+use borrow.Author.Rules.{rules}
+use mathlib.Core.Path.{sym, ◌∙◌}
+use borrow.Author.Tests.{not-false, not-true}
+use Rattle.sheet.specs.Edition.{Edition}
+use Rattle.clocktoad.proofs.Calling.{size_known, size_unknown}
+use Rattle.clocktoad.proofs.sizes.clocktoad_line_numbers.Goals as goal
+
+pub returns-then-not-is_model : goal.returns-then-not-is_model
+returns-then-not-is_model c = size_unknown _ _ (sym c.is_model.ensures ∙ not-true c.is_model.result c.if-not-is_model.true-raw)
+
+pub returns : goal.returns
+returns c =
+    let a = c.args in
+    size_known a.model (λ (e : Edition). e.columns)
+    (sym c.is_model.ensures ∙ not-false c.is_model.result c.if-not-is_model.false-raw)
+    c.model_of-known.ensures c.line_numbers.ensures

@@ -1,0 +1,22 @@
+-- `sizes::clocktoad_page_due`: past the test the words are a state, and what is due of it is asked.
+use borrow.Author.Rules.{rules}
+use mathlib.Core.Bool.{true}
+use mathlib.Core.Path.{◌≡◌, sym, ◌∙◌}
+use borrow.Author.Tests.{not-false, not-true}
+use Rattle.words.specs.Words.{is_state}
+use Rattle.words.proofs.Ranges.{state_halves}
+use Rattle.clocktoad.proofs.Calling.{due_held, due_none}
+use Rattle.clocktoad.proofs.sizes.clocktoad_page_due.Goals as goal
+use Rattle.clocktoad.proofs.sizes.clocktoad_page_due.Goals.{Else-not-is_state}
+
+held : (c : Else-not-is_state) → is_state c.args.state.now ≡ true
+held c = sym c.is_state.ensures ∙ not-false c.is_state.result c.if-not-is_state.false-raw
+
+pub returns-then-not-is_state : goal.returns-then-not-is_state
+returns-then-not-is_state c = due_none _ (sym c.is_state.ensures ∙ not-true c.is_state.result c.if-not-is_state.true-raw)
+
+pub state_of-requires : goal.state_of-requires
+state_of-requires c = state_halves _ (held c)
+
+pub returns : goal.returns
+returns c = due_held _ (held (goal.at.returns c).Else-not-is_state) c.state_of.ensures c.page_due.ensures.value

@@ -1,0 +1,28 @@
+-- `brackets::reform`: a form that is not allowed or not in place is a note; else the state has the form, and the page is finished.
+use Rattle.std.proofs.Common.{rules}
+use borrow.Author.Tests.{not-false, not-true}
+use Rattle.printer.specs.Machine.{with_printer}
+use Rattle.commands.proofs.Reforming.{not_allowed, out_of_place, reforms}
+use Rattle.commands.proofs.brackets.reform.Goals as goal
+
+pub returns-then-not-allowed : goal.returns-then-not-allowed
+returns-then-not-allowed c m =
+    let a = c.args in
+    not_allowed (with_printer a.p m) a.form a.place (not-true a.allowed c.if-not-allowed.true-raw) c.noted.ensures
+
+pub returns-then-not-at_top : goal.returns-then-not-at_top
+returns-then-not-at_top c m =
+    let a = c.args in
+    out_of_place (with_printer a.p m) a.form a.place (not-false a.allowed c.if-not-allowed.false-raw)
+    c.at_top.ensures (not-true c.at_top.result c.if-not-at_top.true-raw) c.noted-then-not-at_top.ensures
+
+pub reformed-requires : goal.reformed-requires
+reformed-requires c =
+    let s = c in s.requires.allowed_form (not-false s.args.allowed c.if-not-allowed.false-raw)
+
+pub returns : goal.returns
+returns c m =
+    let a = c.args in
+    let t = c in
+    reforms (with_printer a.p m) a.form a.place (not-false a.allowed c.if-not-allowed.false-raw)
+    t.at_top.ensures (not-false t.at_top.result c.if-not-at_top.false-raw) c.finished.ensures c.reformed.ensures

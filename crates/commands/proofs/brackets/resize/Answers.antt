@@ -1,0 +1,16 @@
+-- `brackets::resize`: a form that is allowed is no longer than the longest, and its top margin lies on it.
+use Rattle.std.proofs.Common.{sym, ◌∙◌, rules}
+use Rattle.printer.specs.Brackets.{resize}
+use Rattle.commands.proofs.Reforming.{allowed_bounded}
+use Rattle.commands.proofs.brackets.resize.Goals as goal
+
+pub reform-requires : goal.reform-requires
+reform-requires c =
+    let s = c in
+    let p = s.args.p in
+    let new = c.resized-new.result in
+    record { sound_form = s.requires; allowed_form = λ t. allowed_bounded p.model s.args.s.semicolons new (sym c.form_allowed.ensures ∙ t) }
+
+pub returns : goal.returns
+unfolding resize
+returns c m = c.reform.ensures m ∙ simp (c.form_allowed.ensures, c.resized-new.ensures)

@@ -1,0 +1,13 @@
+-- `entering::enter_narrow`: each turn enters the next column of the glyph and goes on by a stride, so that after k turns k columns are entered.
+use Prim.Native.Nat.{ℕ, ◌+◌, ◌-◌, ◌≤◌}
+use native.Mathlib.Omega.{arith}
+use lib.ListN.{length}
+use Rattle.glyph.specs.Entering.{enter_narrow}
+use Rattle.glyph.proofs.Turns.{Made, none_made, next_fits, all_made, narrow_turn}
+use Rattle.glyph.proofs.entering.enter_narrow.Given as goal
+
+abbrev pub invariant-loop-k : goal.invariant-loop-k
+invariant-loop-k l = Made (λ (j : ℕ). enter_narrow j l.glyphs l.n l.at l.stride l.initial.line) 7 l.at l.stride l.k l.to l.initial.line l.line
+
+abbrev pub decreases-loop-k : goal.decreases-loop-k
+decreases-loop-k l = 7 - l.k

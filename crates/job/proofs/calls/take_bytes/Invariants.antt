@@ -1,0 +1,33 @@
+-- `calls::take_bytes` meets its contract. The loop keeps `Underway`: to take the whole piece from the first machine is to take what is left of it from
+-- the present one. A run and a quiet byte lead on; the piece's end, the job's limit and a byte that has something to tell end it as they end
+-- `take_bytes`.
+use borrow.Author.Rules.{rules}
+use Prim.Native.Nat.{ℕ, ◌+◌, ◌-◌, ◌<◌}
+use mathlib.Core.List.{List}
+use mathlib.Core.Path.{◌≡◌, refl, sym, ◌∙◌}
+use native.Mathlib.Omega.{arith}
+use borrow.Author.Tests.{not-false, not-true}
+use lib.ListN.{length}
+use Rattle.sheet.proofs.Editions.{described_proper}
+use Rattle.printer.specs.declared.Printer.{Printer}
+use Rattle.printer.specs.Given.{given, machine}
+use Rattle.printer.specs.Machine.{Machine, edition_of, limit}
+use Rattle.printer.specs.Steps.{Step}
+use Rattle.protocol.proofs.Taking.{ready_room}
+use Rattle.runs.proofs.Leading.{run_leads}
+use Rattle.job.proofs.Underway.{Underway, after_run, after_step, at_limit, at_start, ready_here, told, used_up, writable}
+use Rattle.job.proofs.calls.take_bytes.Given as goal
+
+pub record Inv (font piece page₀ line₀ staging₀ store₀ page line staging store : List ℕ) (q₀ q : Printer) (i : ℕ) : Type 0 where
+  pub underway : Underway (edition_of q₀) font piece (machine q₀ page₀ line₀ staging₀ store₀) (machine q page line staging store) i
+  pub page-kept : length page ≡ length page₀
+  pub line_kept : length line ≡ length line₀
+  pub staging-kept : length staging ≡ length staging₀
+  pub store_kept : length store ≡ length store₀
+
+abbrev pub invariant-loop-i : goal.invariant-loop-i
+invariant-loop-i l =
+    Inv l.font l.piece l.initial.page l.initial.line l.initial.staging l.initial.store l.page l.line l.staging l.store l.initial.q l.q l.i
+
+abbrev pub decreases-loop-i : goal.decreases-loop-i
+decreases-loop-i l = length l.piece - l.i

@@ -1,0 +1,52 @@
+-- `byte::column`: a byte that is a column and fits is a run of one; another is none.
+use borrow.Author.Rules.{rules}
+use Prim.Native.Nat.{◌+◌, ◌≤◌, ◌<◌}
+use mathlib.Core.Bool.{true}
+use mathlib.Core.List.{[], ◌∷◌}
+use mathlib.Core.Path.{◌≡◌, refl, sym}
+use native.Mathlib.Omega.{arith}
+use borrow.Author.Tests.{not-true}
+use Rattle.sheet.proofs.Editions.{described_bounded, described_proper}
+use Rattle.printer.specs.Machine.{edition_of}
+use Rattle.printer.specs.Plotting.{plots}
+use Rattle.runs.specs.Runs.{reached}
+use Rattle.runs.proofs.Running.{runs_dry, runs_nowhere}
+use Rattle.runs.proofs.Plotted.{drawing, on_line, plotted_on, plotted_out}
+use Rattle.runs.proofs.byte.column.Goals as goal
+use Rattle.runs.proofs.byte.column.Goals.{Else-not-draws}
+
+pub overflow_add-next : goal.overflow_add-next
+overflow_add-next c =
+    let s = c in
+    let b = described_bounded s.args.p.model in
+    omega (arith, b.columns, b.stride s.args.p.style.pitch, c.stride.ensures, s.requires.2)
+
+pub returns-then-not-draws : goal.returns-then-not-draws
+unfolding reached
+returns-then-not-draws c font page staging store =
+    let s = c in
+    sym (plotted_out _ s.args.p.style c.stride.ensures c.width-w.ensures
+    (runs_nowhere _ font (s.args.b ∷ []) _) s.requires.0 refl (omega arith) c.draws.ensures c.if-not-draws.true)
+
+-- the byte is a column, and it fits the line
+column : (c : Else-not-draws) → (plots c.args.b ≡ true)
+    × (c.args.p.head.column + c.stride.result ≤ c.width-w.result)
+column c = drawing _ _ _ c.draws.ensures c.if-not-draws.false-raw
+
+place : (c : Else-not-draws) → c.args.p.head.column < (edition_of c.args.p).columns
+place c =
+    let p = c.args.p in
+    (on_line _ p.style c.stride.ensures c.width-w.ensures (described_proper p.model) (column c).1).0
+
+pub or_in-requires : goal.or_in-requires
+or_in-requires c = omega (arith, place (goal.at.or_in-requires c).Else-not-draws, c.requires.3)
+
+pub returns : goal.returns
+unfolding reached
+returns c font page staging store =
+    let s = c in
+    sym (runs_dry
+    (plotted_on _ s.args.p.style c.stride.ensures c.width-w.ensures
+    (runs_nowhere _ font (s.args.b ∷ []) _) s.requires.0 refl (omega arith) s.requires.1 (column (goal.at.returns c).Else-not-draws)
+    c.wires.ensures c.or_in.ensures)
+    (omega arith))

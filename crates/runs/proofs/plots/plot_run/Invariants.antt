@@ -1,0 +1,34 @@
+-- `plots::plot_run`: each byte that is a column and fits leads the machine one column on; the first that is none ends the run.
+use borrow.Author.Rules.{rules}
+use Prim.Native.Nat.{ℕ, ◌+◌, ◌-◌, ◌≤◌, ◌<◌}
+use mathlib.Core.Bool.{true}
+use mathlib.Core.List.{List}
+use mathlib.Core.Path.{◌≡◌, refl, sym, ◌∙◌}
+use native.Mathlib.Omega.{arith}
+use borrow.Author.Tests.{not-true}
+use lib.ListN.{get_or, length}
+use Rattle.sheet.proofs.Editions.{described_bounded, described_proper}
+use Rattle.printer.specs.declared.Printer.{Printer}
+use Rattle.printer.specs.Given.{machine}
+use Rattle.printer.specs.Plotting.{plots}
+use Rattle.printer.specs.Machine.{edition_of, limit}
+use Rattle.runs.specs.Runs.{Plotting}
+use Rattle.runs.proofs.Running.{Runs, Taken, another_byte, none_taken, one_more, room_for_it, runs_nowhere, runs_over}
+use Rattle.runs.proofs.Plotted.{drawing, on_line, plots_still, plotted_on, plotted_out}
+use Rattle.runs.proofs.plots.plot_run.Given as goal
+
+-- k columns are plotted
+pub record Inv (piece line₀ line : List ℕ) (n : ℕ) (q₀ q : Printer) (k : ℕ) : Type 0 where
+  pub plotting : Plotting q
+  pub style : q.style ≡ q₀.style
+  pub column : q.head.column ≤ (edition_of q₀).columns
+  pub taken : Taken n k q₀.job q.job
+  pub kept : length line ≡ length line₀
+  pub runs : (font page staging store : List ℕ)
+      → Runs (edition_of q₀) font piece k (machine q₀ page line₀ staging store) (machine q page line staging store)
+
+abbrev pub invariant-loop-k : goal.invariant-loop-k
+invariant-loop-k l = Inv l.piece l.initial.line l.line l.n l.initial.q l.q l.k
+
+abbrev pub decreases-loop-k : goal.decreases-loop-k
+decreases-loop-k l = l.n - l.k

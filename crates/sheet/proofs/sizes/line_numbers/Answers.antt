@@ -1,0 +1,14 @@
+-- `sizes::line_numbers`: each arm is the description at the model that the match has found.
+use mathlib.Core.Path.{sym, ap}
+use borrow.Author.Rules.{rules}
+use Rattle.sheet.specs.declared.Model.{Model}
+use Rattle.sheet.specs.Edition.{described, dg6215, lp2}
+use Rattle.sheet.proofs.sizes.line_numbers.Goals as goal
+
+pub returns-in-Lp2 : goal.returns-in-Lp2
+unfolding lp2
+returns-in-Lp2 c = sym (ap (λ (w : Model). (described w).columns) c.in-Lp2.is)
+
+pub returns-in-Dg6215 : goal.returns-in-Dg6215
+unfolding dg6215
+returns-in-Dg6215 c = sym (ap (λ (w : Model). (described w).columns) c.in-Dg6215.is)

@@ -1,0 +1,10 @@
+-- `lines::strike`: the line is struck, then emptied; neither touches what the other wrote.
+use mathlib.Core.Path.{◌∙◌}
+use borrow.Author.Rules.{rules}
+use Rattle.sheet.proofs.Emptying.{line_emptied}
+use Rattle.striking.proofs.lines.strike.Goals as goal
+
+pub returns : goal.returns
+returns c =
+    let start = c in
+    record { page_after = c.onto.ensures; line_after = c.empty.ensures ∙ line_emptied _ start.args.line.now start.requires.full }

@@ -1,0 +1,14 @@
+-- `setting_word`: in each arm the number is known, and the definition gives that arm's word.
+use borrow.Author.Rules.{rules}
+use mathlib.Core.Path.{refl}
+use native.Mathlib.Omega.{arith}
+use Rattle.words.specs.Words.{setting_word}
+use Rattle.words.proofs.setting_word.Goals as goal
+
+pub returns-in-Omitted : goal.returns-in-Omitted
+unfolding setting_word
+returns-in-Omitted c = rw c.in-Omitted.is (refl, omega arith)
+
+pub returns-in-Given : goal.returns-in-Given
+unfolding setting_word
+returns-in-Given c = rw c.in-Given.is (refl, omega (arith, c.in-Given.known_told-1-own))
