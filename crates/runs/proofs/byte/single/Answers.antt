@@ -1,6 +1,6 @@
 -- `byte::single`: a column in plot mode, a character outside it; in a full job and on a plot line that plot mode has left there is no run.
 use borrow.Author.Rules.{rules}
-use Prim.Native.Nat.{◌<◌}
+use Prim.Native.Nat.{◌<◌, ◌^◌}
 use mathlib.Core.Bool.{Bool, cond}
 use mathlib.Core.List.{[], ◌∷◌}
 use mathlib.Core.Path.{refl, ap, sym}
