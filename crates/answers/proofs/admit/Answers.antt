@@ -1,9 +1,7 @@
 -- `admit`: lines, spacing and lengths are tested in this order, and the first that is wrong is answered; what passes all is 0.
-use borrow.Author.Rules.{rules}
 use mathlib.Core.Bool.{true}
 use mathlib.Core.Path.{◌≡◌, ap, sym, ◌∙◌}
 use native.Mathlib.Omega.{arith}
-use borrow.Author.Tests.{not-false, not-true}
 use Rattle.sheet.proofs.Editions.{described_bounded}
 use Rattle.sheet.proofs.Units.{lines-most}
 use Rattle.sheet.specs.Edition.{described}

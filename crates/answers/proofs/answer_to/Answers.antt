@@ -1,5 +1,4 @@
 -- `answer_to`: each event has its answer, told by the definition's own arms.
-use borrow.Author.Rules.{rules}
 use Rattle.answers.proofs.answer_to.Goals as goal
 
 pub returns-in-Quiet : goal.returns-in-Quiet

@@ -1,5 +1,4 @@
 -- `fit`: the lengths are tested in the definition's order, so that the first that is wrong is the one that is told.
-use borrow.Author.Rules.{rules}
 use Rattle.printer.specs.declared.Printer.{Printer}
 use Rattle.printer.specs.Given.{machine}
 use Rattle.printer.specs.Machine.{Machine}

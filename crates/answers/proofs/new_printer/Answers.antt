@@ -1,5 +1,4 @@
 -- `new_printer`: a new printer has no tabs, which are two words of 0.
-use borrow.Author.Rules.{rules}
 use Rattle.printer.specs.Tabs.{no_tabs}
 use Rattle.answers.proofs.new_printer.Goals as goal
 

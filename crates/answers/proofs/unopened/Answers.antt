@@ -1,6 +1,5 @@
 -- `unopened`: the shut state is that of a new printer.
 use native.Mathlib.Omega.{arith}
-use borrow.Author.Rules.{rules}
 use Rattle.answers.proofs.unopened.Goals as goal
 
 pub new_printer-requires : goal.new_printer-requires

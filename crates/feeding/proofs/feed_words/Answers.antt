@@ -1,5 +1,4 @@
 -- `feed_words`: a byte that `feed_brief` takes is fed as it says; what it leaves alone is fed by `feed_piece`.
-use borrow.Author.Rules.{rules}
 use Rattle.feeding.specs.Feeding.{Called, called}
 use Rattle.feeding.proofs.Feeding.{fed_alike}
 use Rattle.feeding.proofs.feed_words.Goals as goal

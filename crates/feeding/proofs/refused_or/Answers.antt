@@ -1,5 +1,4 @@
 -- `refused_or`: a refusal has its own number; what is none leaves the number that was given.
-use borrow.Author.Rules.{rules}
 use Rattle.feeding.specs.Feeding.{refused_or}
 use Rattle.feeding.proofs.refused_or.Goals as goal
 

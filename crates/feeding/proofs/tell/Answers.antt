@@ -1,5 +1,4 @@
 -- `tell`: four writes from the first word on make a report of four words anew.
-use borrow.Author.Rules.{rules}
 use mathlib.Core.List.{[], ◌∷◌}
 use Rattle.words.proofs.Writing.{written_behind}
 use Rattle.feeding.proofs.tell.Goals as goal

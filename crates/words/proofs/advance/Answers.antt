@@ -1,5 +1,4 @@
 -- `advance`: three words of a state are written; of the words that it is put into these are the job's length, the column and whether the line is fresh.
-use borrow.Author.Rules.{rules}
 use native.Mathlib.Omega.{arith}
 use lib.ListN.{length-set}
 use Rattle.words.specs.Words.{state_words, truth}

@@ -1,10 +1,8 @@
 -- `at_most`: what is left to look at says what the whole does, from each word in range to the next; the first that is not makes it false.
-use borrow.Author.Rules.{rules}
-use Prim.Native.Nat.{◌+◌, ◌-◌, ◌≤◌, ◌<◌}
-use mathlib.Core.Path.{◌≡◌, sym, ◌∙◌}
+use Prim.Native.Nat.{◌+◌, ◌<◌}
+use mathlib.Core.Path.{sym, ◌∙◌}
 use native.Mathlib.Omega.{arith}
 use lib.ListN.{length}
-use Rattle.words.specs.Words.{at_most, part}
 use Rattle.words.proofs.Ranges.{part_end, part_fails, part_goes_on, part-start}
 use Rattle.words.proofs.at_most.Goals as goal
 use Rattle.words.proofs.at_most.Goals.{In-loop-i, Start}

@@ -1,5 +1,4 @@
 -- `form_of`: each number is read as it stands, and the margins' are lines.
-use borrow.Author.Rules.{rules}
 use mathlib.Core.Path.{ap, ◌∙◌}
 use Rattle.sheet.specs.Form.{line}
 use Rattle.words.proofs.Reading.{read_form}

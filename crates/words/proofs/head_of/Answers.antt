@@ -1,5 +1,4 @@
 -- `head_of`: row and column are read as they stand, and each truth is whether its word is 1.
-use borrow.Author.Rules.{rules}
 use mathlib.Core.Path.{ap, ◌∙◌}
 use Rattle.sheet.specs.Form.{row}
 use Rattle.words.proofs.Reading.{read_head}

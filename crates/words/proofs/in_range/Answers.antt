@@ -1,9 +1,7 @@
 -- `in_range`: each test that holds leaves what the later ones say; the first that fails makes the whole false.
-use borrow.Author.Rules.{rules}
 use mathlib.Core.Bool.{true}
 use mathlib.Core.Path.{◌≡◌, ap, sym, ◌∙◌}
 use Prim.Native.Nat.{ℕ}
-use borrow.Author.Tests.{not-false, not-true}
 use lib.ListN.{get_or}
 use Rattle.words.specs.Words.{at_most, in_range, in_range_before, number_limit, part}
 use Rattle.words.proofs.in_range.Goals as goal

@@ -1,8 +1,6 @@
 -- `in_range_before`: each test that holds leaves what the later ones say; the first that fails makes the whole false.
-use borrow.Author.Rules.{rules}
 use mathlib.Core.Bool.{true}
 use mathlib.Core.Path.{◌≡◌, sym, ◌∙◌}
-use borrow.Author.Tests.{not-false, not-true}
 use Rattle.words.specs.Words.{at_most, in_range_before, part}
 use Rattle.words.proofs.in_range_before.Goals as goal
 use Rattle.words.proofs.in_range_before.Goals.{Else-not-at_most, Else-not-at_most-2}

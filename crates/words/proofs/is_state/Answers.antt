@@ -1,5 +1,4 @@
 -- `is_state`: another number of words fails the first test; for as many as a state has the ranges decide.
-use borrow.Author.Rules.{rules}
 use borrow.Author.Tests.{eq-eqb, ne_eqb}
 use Rattle.words.specs.Words.{is_state, state_size}
 use Rattle.words.proofs.is_state.Goals as goal

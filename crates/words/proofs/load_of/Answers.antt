@@ -1,5 +1,4 @@
 -- `load_of`: each number is made narrower by itself.
-use borrow.Author.Rules.{rules}
 use Rattle.words.proofs.load_of.Goals as goal
 
 pub returns : goal.returns

@@ -1,5 +1,4 @@
 -- `model_word`: in each arm the model is known, and the definition gives that arm's number.
-use borrow.Author.Rules.{rules}
 use mathlib.Core.Path.{sym, ap}
 use Rattle.sheet.specs.declared.Model.{Model}
 use Rattle.words.specs.Words.{model_word}

@@ -1,5 +1,4 @@
 -- `pending_read`: that the words are a state gives each number that is made narrower its range.
-use borrow.Author.Rules.{rules}
 use Rattle.words.proofs.Ranges.{InRange, ranges}
 use Rattle.words.proofs.Reading.{read_pending}
 use Rattle.words.proofs.pending_read.Goals as goal

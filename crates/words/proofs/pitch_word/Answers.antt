@@ -1,5 +1,4 @@
 -- `pitch_word`: in each arm the pitch is known, and the definition gives that arm's number.
-use borrow.Author.Rules.{rules}
 use mathlib.Core.Path.{sym, ap}
 use Rattle.sheet.specs.declared.Pitch.{Pitch}
 use Rattle.words.specs.Words.{pitch_word}

@@ -1,5 +1,4 @@
 -- `put`: seventeen words are written from the first on, then those of what is pending; `wrote_state` says that this is the state, in range.
-use borrow.Author.Rules.{rules}
 use mathlib.Core.Path.{◌∙◌}
 use native.Mathlib.Omega.{arith}
 use lib.ListN.{length-set}

@@ -1,5 +1,4 @@
 -- `put_bracket`: each number's word is made first; `wrote_bracket` says that the six words are those of the command.
-use borrow.Author.Rules.{rules}
 use Rattle.words.proofs.Writing.{wrote_bracket}
 use Rattle.words.proofs.put_bracket.Goals as goal
 

@@ -1,5 +1,4 @@
 -- `put_new`: the words of a job just opened are written one after the other.
-use borrow.Author.Rules.{rules}
 use mathlib.Core.Path.{◌∙◌}
 use native.Mathlib.Omega.{arith}
 use lib.ListN.{length-set}

@@ -1,5 +1,4 @@
 -- `put_pending`: each arm writes the six words of its kind, and `wrote_pending` says that they are those of what is pending, in range.
-use borrow.Author.Rules.{rules}
 use native.Mathlib.Omega.{arith}
 use Rattle.words.specs.Words.{pending_words}
 use Rattle.words.proofs.Writing.{wrote_pending}

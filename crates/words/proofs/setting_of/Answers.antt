@@ -1,5 +1,4 @@
 -- `setting_of`: the code's test is the definition's, and what is 1 less than a word in range has two bytes.
-use borrow.Author.Rules.{rules}
 use borrow.Author.Tests.{eq-eqb, ne_eqb}
 use Rattle.words.specs.Words.{setting_of}
 use Rattle.words.proofs.setting_of.Goals as goal

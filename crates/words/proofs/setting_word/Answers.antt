@@ -1,5 +1,4 @@
 -- `setting_word`: in each arm the number is known, and the definition gives that arm's word.
-use borrow.Author.Rules.{rules}
 use mathlib.Core.Path.{refl}
 use native.Mathlib.Omega.{arith}
 use Rattle.words.specs.Words.{setting_word}

@@ -1,5 +1,4 @@
 -- `settings_of`: each number is read by itself.
-use borrow.Author.Rules.{rules}
 use Rattle.words.proofs.settings_of.Goals as goal
 
 pub returns : goal.returns

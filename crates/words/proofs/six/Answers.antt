@@ -1,5 +1,4 @@
 -- `six`: six writes to the last six words leave those before, and place and byte are no wider than their types.
-use borrow.Author.Rules.{rules}
 use mathlib.Core.List.{[], ◌∷◌}
 use native.Mathlib.Omega.{arith}
 use lib.ListN.{length-set}

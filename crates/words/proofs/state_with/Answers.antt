@@ -1,5 +1,4 @@
 -- `state_with`: that the words are a state gives each number that is made narrower its range; all others are read as they stand.
-use borrow.Author.Rules.{rules}
 use Rattle.words.proofs.Ranges.{InRange, ranges}
 use Rattle.words.proofs.Reading.{read_state}
 use Rattle.words.proofs.state_with.Goals as goal

@@ -1,5 +1,4 @@
 -- `style_of`: each truth is whether its word is 1.
-use borrow.Author.Rules.{rules}
 use Rattle.words.proofs.Reading.{read_style}
 use Rattle.words.proofs.style_of.Goals as goal
 

@@ -1,7 +1,6 @@
 -- `plotting::plot`: a column that ends by W is entered and the head moves on; past W there is a note and nothing else.
 use Prim.Native.Nat.{◌+◌}
 use mathlib.Core.Path.{◌≡◌}
-use borrow.Author.Rules.{rules}
 use native.Mathlib.Omega.{arith}
 use Rattle.sheet.proofs.Editions.{described_bounded, described_proper}
 use Rattle.printer.specs.Given.{machine}

@@ -1,5 +1,4 @@
 -- `plotting::plot_byte`: a byte that is a column is plotted; another is a note and changes nothing.
-use borrow.Author.Rules.{rules}
 use mathlib.Core.Path.{sym, ◌∙◌}
 use Rattle.printer.specs.Plotting.{plot_byte}
 use Rattle.state.proofs.Tests.{when}

@@ -1,5 +1,4 @@
 -- `plotting::plot_escape`: the arms are the definition's tests in its order.
-use borrow.Author.Rules.{rules}
 use borrow.Author.Tests.{eq-eqb, ne_eqb}
 use Rattle.printer.specs.Plotting.{plot_escape}
 use Rattle.state.proofs.Tests.{when}

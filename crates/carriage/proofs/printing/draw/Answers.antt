@@ -1,5 +1,4 @@
 -- `printing::draw`: the glyph comes from the store or the font, as the definition's choice says; both arms enter it alike.
-use borrow.Author.Rules.{rules}
 use Rattle.carriage.proofs.printing.draw.Goals as goal
 
 pub returns-then-style : goal.returns-then-style

@@ -1,7 +1,6 @@
 -- `printing::print`: three ways, tested in the definition's order: on a plot line, entered where the cell has room, line full.
 use Prim.Native.Nat.{◌+◌, ◌*◌, ◌≤◌}
 use mathlib.Core.Path.{◌≡◌}
-use borrow.Author.Rules.{rules}
 use native.Mathlib.Omega.{arith}
 use Rattle.sheet.proofs.Editions.{described_bounded, described_proper}
 use Rattle.glyph.specs.Entering.{cell}

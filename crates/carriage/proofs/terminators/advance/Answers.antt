@@ -1,5 +1,4 @@
 -- `terminators::advance`: seven rows on a plot line, else the spacing's, which are twelve at most.
-use borrow.Author.Rules.{rules}
 use native.Mathlib.Omega.{arith}
 use Rattle.sheet.proofs.Units.{twelve_rows}
 use Rattle.carriage.proofs.terminators.advance.Goals as goal

@@ -1,5 +1,4 @@
 -- `terminators::carriage_return`: the line is struck and the head stays at its row.
-use borrow.Author.Rules.{rules}
 use Rattle.printer.specs.Terminators.{carriage_return}
 use Rattle.carriage.proofs.terminators.carriage_return.Goals as goal
 

@@ -1,9 +1,7 @@
 -- `terminators::first_tab`: a line that has no tab leaves the first tab to the lines below it, down to the last.
-use borrow.Author.Rules.{rules}
-use native.Mathlib.Omega.{arith}
 use Prim.Native.Nat.{◌-◌, ◌≤◌}
-use mathlib.Core.Path.{◌≡◌, refl, sym, ◌∙◌}
-use Rattle.carriage.proofs.TabsBelow.{found, none_below, passed_by, tab_below}
+use mathlib.Core.Path.{◌≡◌}
+use Rattle.carriage.proofs.TabsBelow.{tab_below}
 use Rattle.carriage.proofs.terminators.first_tab.Given as goal
 
 -- no tab stands on the lines up to i

@@ -1,5 +1,4 @@
 -- `terminators::form_done`: what `line_done` leaves is kept, and another event told of it.
-use borrow.Author.Rules.{rules}
 use mathlib.Core.Path.{ap}
 use Rattle.printer.specs.Steps.{Step, finished}
 use Rattle.carriage.proofs.terminators.form_done.Goals as goal

@@ -1,5 +1,4 @@
 -- `terminators::form_feed`: the line is struck and the form is finished, with the head on the first row of the next.
-use borrow.Author.Rules.{rules}
 use Rattle.sheet.proofs.Editions.{described_bounded}
 use Rattle.printer.specs.Given.{machine}
 use Rattle.carriage.proofs.Rooms.{top_bound}

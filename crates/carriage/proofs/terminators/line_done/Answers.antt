@@ -1,5 +1,4 @@
 -- `terminators::line_done`: the strike inks the page and empties the line, `fresh` moves the head: together the definition's strike.
-use borrow.Author.Rules.{rules}
 use Rattle.printer.specs.Given.{machine}
 use Rattle.carriage.proofs.Rooms.{rows_on_page}
 use Rattle.carriage.proofs.Struck.{done}

@@ -1,5 +1,4 @@
 -- `terminators::newline`: the line is struck; the next one is on the form or on the one that follows, as its nine rows fit or not.
-use borrow.Author.Rules.{rules}
 use mathlib.Core.Path.{sym, ◌∙◌}
 use Rattle.sheet.proofs.Editions.{described_bounded}
 use Rattle.printer.specs.Given.{machine}

@@ -1,6 +1,5 @@
 -- `terminators::vertical_tab`: the tabs below the current line and all of them are the two that the definition looks through.
 use Prim.Native.Nat.{◌≤◌}
-use borrow.Author.Rules.{rules}
 use native.Mathlib.Omega.{arith}
 use Rattle.sheet.proofs.Editions.{described_bounded}
 use Rattle.printer.specs.Given.{machine}

@@ -1,10 +1,8 @@
 -- `calls::clocktoad_close`: what is no state, or an unsound one, is 10, then a report of the wrong length is 22; what passes all is told as `close` gives it.
-use borrow.Author.Rules.{rules}
 use Prim.Native.Nat.{ℕ}
 use mathlib.Core.Bool.{true}
 use mathlib.Core.List.{List}
 use mathlib.Core.Path.{◌≡◌, sym, ◌∙◌}
-use borrow.Author.Tests.{not-false, not-true}
 use Rattle.clocktoad.specs.Calls.{close_call, closing_words}
 use Rattle.words.specs.Words.{is_state}
 use Rattle.words.proofs.Ranges.{state_halves}

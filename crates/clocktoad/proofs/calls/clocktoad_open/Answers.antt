@@ -1,8 +1,6 @@
 -- `calls::clocktoad_open`: for a number that no model has the shut state is put, else the model's opening is called.
-use borrow.Author.Rules.{rules}
 use mathlib.Core.List.{[]}
 use mathlib.Core.Path.{sym, ◌∙◌}
-use borrow.Author.Tests.{not-false, not-true}
 use Rattle.feeding.specs.Feeding.{Called, called}
 use Rattle.feeding.proofs.Feeding.{Lent}
 use Rattle.clocktoad.proofs.Calling.{open_known, open_unknown}

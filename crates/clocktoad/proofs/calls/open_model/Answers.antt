@@ -1,6 +1,5 @@
 -- `calls::open_model`: a state of the right length gets the words of what `open` gives back, which are a state; with a wrong one nothing is
 -- written, and what opening refuses besides is answered first.
-use borrow.Author.Rules.{rules}
 use Prim.Native.Nat.{ℕ}
 use mathlib.Core.Bool.{true}
 use mathlib.Core.List.{List, []}

@@ -1,5 +1,4 @@
 -- `calls::put_shut`: words as many as a state's get the shut state, others stay.
-use borrow.Author.Rules.{rules}
 use native.Mathlib.Omega.{arith}
 use mathlib.Core.Path.{◌≡◌}
 use lib.ListN.{length}

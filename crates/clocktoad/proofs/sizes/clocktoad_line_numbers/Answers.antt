@@ -1,7 +1,5 @@
 -- `sizes::clocktoad_line_numbers`: the numbers are those of the model's line store.
-use borrow.Author.Rules.{rules}
 use mathlib.Core.Path.{sym, ◌∙◌}
-use borrow.Author.Tests.{not-false, not-true}
 use Rattle.sheet.specs.Edition.{Edition}
 use Rattle.clocktoad.proofs.Calling.{size_known, size_unknown}
 use Rattle.clocktoad.proofs.sizes.clocktoad_line_numbers.Goals as goal

@@ -1,7 +1,5 @@
 -- `sizes::clocktoad_page_bytes`: the bytes are those of a page of the model.
-use borrow.Author.Rules.{rules}
 use mathlib.Core.Path.{sym, ◌∙◌}
-use borrow.Author.Tests.{not-false, not-true}
 use Rattle.sheet.specs.Edition.{Edition}
 use Rattle.sheet.specs.Form.{page_size}
 use Rattle.clocktoad.proofs.Calling.{size_known, size_unknown}

@@ -1,8 +1,6 @@
 -- `sizes::clocktoad_page_due`: past the test the words are a state, and what is due of it is asked.
-use borrow.Author.Rules.{rules}
 use mathlib.Core.Bool.{true}
 use mathlib.Core.Path.{◌≡◌, sym, ◌∙◌}
-use borrow.Author.Tests.{not-false, not-true}
 use Rattle.words.specs.Words.{is_state}
 use Rattle.words.proofs.Ranges.{state_halves}
 use Rattle.clocktoad.proofs.Calling.{due_held, due_none}

@@ -1,5 +1,5 @@
 -- `brackets::at_top`: a line that is not fresh is not in place; one that is goes by the row.
-use Rattle.std.proofs.Common.{arith, rules}
+use Rattle.std.proofs.Common.{arith}
 use Rattle.sheet.proofs.Editions.{described_bounded}
 use Rattle.printer.specs.Brackets.{at_top}
 use Rattle.commands.proofs.brackets.at_top.Goals as goal

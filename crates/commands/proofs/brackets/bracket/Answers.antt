@@ -1,5 +1,5 @@
 -- `brackets::bracket`: the arms are the definition's, by the last byte.
-use Rattle.std.proofs.Common.{◌∙◌, rules, ne_eqb}
+use Rattle.std.proofs.Common.{◌∙◌, ne_eqb}
 use Rattle.printer.specs.Brackets.{bracket}
 use Rattle.commands.proofs.brackets.bracket.Goals as goal
 

@@ -1,5 +1,5 @@
 -- `brackets::digit_read`: each arm is the definition at the count of semicolons that the match has found.
-use Rattle.std.proofs.Common.{rules, ne_eqb}
+use Rattle.std.proofs.Common.{ne_eqb}
 use Rattle.printer.specs.Brackets.{digit_read}
 use Rattle.commands.proofs.brackets.digit_read.Goals as goal
 

@@ -1,5 +1,5 @@
 -- `brackets::form_allowed`: the tests in the definition's order; the first that fails makes the whole false.
-use Rattle.std.proofs.Common.{rules, le-ltb, lt-ltb}
+use Rattle.std.proofs.Common.{le-ltb, lt-ltb}
 use Rattle.commands.proofs.brackets.form_allowed.Goals as goal
 
 pub returns-then-s-ge3 : goal.returns-then-s-ge3

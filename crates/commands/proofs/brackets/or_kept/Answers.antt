@@ -1,5 +1,4 @@
 -- `brackets::or_kept`: the number that is given, or the setting that is kept.
-use Rattle.std.proofs.Common.{rules}
 use Rattle.commands.proofs.brackets.or_kept.Goals as goal
 
 pub returns-in-Omitted : goal.returns-in-Omitted

@@ -1,6 +1,4 @@
 -- `brackets::reform`: a form that is not allowed or not in place is a note; else the state has the form, and the page is finished.
-use Rattle.std.proofs.Common.{rules}
-use borrow.Author.Tests.{not-false, not-true}
 use Rattle.printer.specs.Machine.{with_printer}
 use Rattle.commands.proofs.Reforming.{not_allowed, out_of_place, reforms}
 use Rattle.commands.proofs.brackets.reform.Goals as goal

@@ -1,5 +1,5 @@
 -- `brackets::resize`: a form that is allowed is no longer than the longest, and its top margin lies on it.
-use Rattle.std.proofs.Common.{sym, ◌∙◌, rules}
+use Rattle.std.proofs.Common.{sym, ◌∙◌}
 use Rattle.printer.specs.Brackets.{resize}
 use Rattle.commands.proofs.Reforming.{allowed_bounded}
 use Rattle.commands.proofs.brackets.resize.Goals as goal

@@ -1,5 +1,5 @@
 -- `brackets::resized`: each of the three numbers is the one that is given, or the one in force.
-use Rattle.std.proofs.Common.{ap, ◌∙◌, rules}
+use Rattle.std.proofs.Common.{ap, ◌∙◌}
 use Rattle.sheet.specs.Form.{line}
 use Rattle.printer.specs.Brackets.{or_kept}
 use Rattle.commands.proofs.Reforming.{resized-is}

@@ -1,5 +1,5 @@
 -- `brackets::respace`: the arms are the definition's tests in its order; the form is the one in force, so that it may be set.
-use Rattle.std.proofs.Common.{◌∙◌, arith, rules, ne_eqb}
+use Rattle.std.proofs.Common.{◌∙◌, arith, ne_eqb}
 use Rattle.sheet.proofs.Editions.{described_bounded}
 use Rattle.printer.specs.Brackets.{respace}
 use Rattle.commands.proofs.brackets.respace.Goals as goal

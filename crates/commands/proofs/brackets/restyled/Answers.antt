@@ -1,5 +1,5 @@
 -- `brackets::restyled`: pitch and elongation are set, and the pitch may change as it may.
-use Rattle.std.proofs.Common.{◌∙◌, rules}
+use Rattle.std.proofs.Common.{◌∙◌}
 use Rattle.commands.proofs.brackets.restyled.Goals as goal
 
 pub returns : goal.returns

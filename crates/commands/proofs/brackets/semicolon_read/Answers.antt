@@ -1,5 +1,5 @@
 -- `brackets::semicolon_read`: one semicolon more, and no more than three.
-use Rattle.std.proofs.Common.{rules, le-ltb, lt-ltb}
+use Rattle.std.proofs.Common.{le-ltb, lt-ltb}
 use Rattle.commands.proofs.brackets.semicolon_read.Goals as goal
 
 pub returns-then-s-lt3 : goal.returns-then-s-lt3

@@ -1,5 +1,5 @@
 -- `brackets::setting_byte`: a byte that goes on and is no semicolon is a digit, 30 at least.
-use Rattle.std.proofs.Common.{arith, rules, eq-eqb, ne_eqb}
+use Rattle.std.proofs.Common.{arith, eq-eqb, ne_eqb}
 use Rattle.printer.specs.Brackets.{setting_byte}
 use Rattle.printer.proofs.Capped.{digit_least}
 use Rattle.commands.proofs.brackets.setting_byte.Goals as goal

@@ -1,5 +1,5 @@
 -- `brackets::style`: the arms are the definition's tests in its order.
-use Rattle.std.proofs.Common.{◌∙◌, rules, ne_eqb}
+use Rattle.std.proofs.Common.{◌∙◌, ne_eqb}
 use Rattle.printer.specs.Brackets.{style}
 use Rattle.commands.proofs.brackets.style.Goals as goal
 

@@ -1,5 +1,5 @@
 -- `brackets::with_digit`: a number of sixteen bits times ten, with a digit, is no large number; from 9,999 on it is kept as 9,999.
-use Rattle.std.proofs.Common.{rules, le-ltb, lt-ltb}
+use Rattle.std.proofs.Common.{le-ltb, lt-ltb}
 use Rattle.printer.specs.Brackets.{with_digit}
 use Rattle.commands.proofs.brackets.with_digit.Goals as goal
 

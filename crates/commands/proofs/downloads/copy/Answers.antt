@@ -1,5 +1,5 @@
 -- `downloads::copy`: the first i bytes are those of `from`, the rest those that were there.
-use Rattle.std.proofs.Common.{◌≡◌, ◌-◌, ◌<◌, ◌≤◌, ◌++◌, length, take, drop, arith, length-set, rules}
+use Rattle.std.proofs.Common.{◌≡◌, ◌<◌, length, arith, length-set}
 use Rattle.commands.proofs.Copying.{copy_more}
 use Rattle.commands.proofs.downloads.copy.Goals as goal
 

@@ -1,6 +1,5 @@
 -- `downloads::copy`: the first i bytes are those of `from`, the rest those that were there.
-use Rattle.std.proofs.Common.{◌≡◌, ◌-◌, ◌<◌, ◌≤◌, ◌++◌, length, take, drop, arith, length-set, rules}
-use Rattle.commands.proofs.Copying.{copy_more}
+use Rattle.std.proofs.Common.{◌≡◌, ◌-◌, ◌≤◌, ◌++◌, length, take, drop}
 use Rattle.commands.proofs.downloads.copy.Given as goal
 
 abbrev pub invariant-loop-i : goal.invariant-loop-i

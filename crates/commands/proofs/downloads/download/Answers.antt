@@ -1,10 +1,9 @@
 -- `downloads::download`: sum, range and glyphs are tested in the definition's order; a payload in range fits both stores.
-use Rattle.std.proofs.Common.{◌≡◌, ℕ, ◌+◌, ◌≤◌, false, List, sym, ◌∙◌, arith, rules}
+use Rattle.std.proofs.Common.{◌≡◌, ℕ, ◌+◌, ◌≤◌, false, List, sym, ◌∙◌, arith}
 use Rattle.printer.specs.Downloads.{out_of_range}
 use Rattle.printer.specs.Given.{machine}
 use Rattle.printer.specs.Machine.{Machine}
 use Rattle.printer.proofs.StaysSound.{in_range}
-use Rattle.state.proofs.Tests.{failed, passed}
 use Rattle.commands.proofs.Downloaded.{downloaded, wrong_glyph, wrong_range, wrong_sum}
 use Rattle.commands.proofs.downloads.download.Goals as goal
 use Rattle.commands.proofs.downloads.download.Goals.{Else-out_of_range, Start}

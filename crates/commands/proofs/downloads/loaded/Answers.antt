@@ -1,5 +1,4 @@
 -- `downloads::loaded`: a sum that wraps is the definition's sum modulo 256.
-use Rattle.std.proofs.Common.{rules}
 use Rattle.commands.proofs.downloads.loaded.Goals as goal
 
 pub returns : goal.returns

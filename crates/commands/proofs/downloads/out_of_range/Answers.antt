@@ -1,5 +1,5 @@
 -- `downloads::out_of_range`: the tests of `||` in the definition's order; the first that holds makes the whole true.
-use Rattle.std.proofs.Common.{rules, le-ltb, lt-ltb, eq-eqb, ne_eqb}
+use Rattle.std.proofs.Common.{le-ltb, lt-ltb, eq-eqb, ne_eqb}
 use Rattle.printer.specs.Downloads.{out_of_range}
 use Rattle.commands.proofs.downloads.out_of_range.Goals as goal
 

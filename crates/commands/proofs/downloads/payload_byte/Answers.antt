@@ -1,5 +1,5 @@
 -- `downloads::payload_byte`: a byte that the download lacks is staged; the one after the last is the checksum.
-use Rattle.std.proofs.Common.{rules, le-ltb}
+use Rattle.std.proofs.Common.{le-ltb}
 use Rattle.printer.specs.Bytes.{payload_byte}
 use Rattle.printer.specs.Downloads.{download}
 use Rattle.printer.specs.Given.{machine}

@@ -1,5 +1,4 @@
 -- `downloads::replace`: the bytes copied to the front of the store's part from `at` on are the definition's replacement.
-use Rattle.std.proofs.Common.{rules}
 use Rattle.commands.proofs.Copying.{part_copied}
 use Rattle.commands.proofs.downloads.replace.Goals as goal
 

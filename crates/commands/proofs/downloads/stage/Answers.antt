@@ -1,5 +1,5 @@
 -- `downloads::stage`: a store that has no byte k keeps all of its bytes, as `set` past the end does.
-use Rattle.std.proofs.Common.{sym, rules}
+use Rattle.std.proofs.Common.{sym}
 use lib.Seq.{set_out}
 use Rattle.commands.proofs.downloads.stage.Goals as goal
 

@@ -1,5 +1,5 @@
 -- `escapes::escape`: the arms are the definition's tests in its order, each with the one change of the state that it names.
-use Rattle.std.proofs.Common.{◌∙◌, rules, ne_eqb}
+use Rattle.std.proofs.Common.{◌∙◌, ne_eqb}
 use Rattle.sheet.specs.Form.{line_of}
 use Rattle.printer.specs.Escapes.{escape, tab, tab_here}
 use Rattle.commands.proofs.escapes.escape.Goals as goal

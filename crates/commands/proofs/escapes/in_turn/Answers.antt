@@ -1,5 +1,4 @@
 -- `escapes::in_turn`: on a fresh line what is asked for, else a note.
-use Rattle.std.proofs.Common.{rules}
 use Rattle.printer.specs.Escapes.{in_turn}
 use Rattle.commands.proofs.escapes.in_turn.Goals as goal
 

@@ -1,5 +1,5 @@
 -- `escapes::repitched`: anywhere where the model lets the pitch change, else as on a fresh line.
-use Rattle.std.proofs.Common.{◌∙◌, rules}
+use Rattle.std.proofs.Common.{◌∙◌}
 use Rattle.printer.specs.Escapes.{repitched}
 use Rattle.commands.proofs.escapes.repitched.Goals as goal
 

@@ -1,5 +1,5 @@
 -- `escapes::reset`: the line and the store are cleared and the state is that after a reset; a byte other than 00 is a note.
-use Rattle.std.proofs.Common.{◌∙◌, rules, ne_eqb}
+use Rattle.std.proofs.Common.{◌∙◌, ne_eqb}
 use Rattle.printer.specs.Escapes.{reset}
 use Rattle.printer.specs.Given.{machine}
 use Rattle.sheet.proofs.Emptying.{line_emptied}

@@ -1,5 +1,5 @@
 -- `escapes::select`: both bytes are tested in the definition's order.
-use Rattle.std.proofs.Common.{rules, ne_eqb}
+use Rattle.std.proofs.Common.{ne_eqb}
 use Rattle.printer.specs.Escapes.{select}
 use Rattle.commands.proofs.escapes.select.Goals as goal
 

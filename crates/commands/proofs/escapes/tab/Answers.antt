@@ -1,5 +1,4 @@
 -- `escapes::tab`: the tabs alone change.
-use Rattle.std.proofs.Common.{rules}
 use Rattle.printer.specs.Escapes.{tab}
 use Rattle.commands.proofs.escapes.tab.Goals as goal
 

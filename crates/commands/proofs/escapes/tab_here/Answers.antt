@@ -1,5 +1,5 @@
 -- `escapes::tab_here`: a line counts from 1, so that its tab has a place.
-use Rattle.std.proofs.Common.{arith, rules}
+use Rattle.std.proofs.Common.{arith}
 use Rattle.sheet.specs.Form.{line_of}
 use Rattle.printer.specs.Escapes.{tab_here}
 use Rattle.commands.proofs.escapes.tab_here.Goals as goal

@@ -1,5 +1,5 @@
 -- `escapes::tab_item`: an item that is a line of the form sets its tab; another is a note.
-use Rattle.std.proofs.Common.{sym, ◌∙◌, rules, leb-true}
+use Rattle.std.proofs.Common.{sym, ◌∙◌, leb-true}
 use mathlib.Core.Bool.{and-eq-true_iff}
 use Rattle.sheet.specs.Form.{has_line}
 use Rattle.printer.specs.Escapes.{tab, tab_item}

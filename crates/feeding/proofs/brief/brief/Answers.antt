@@ -1,5 +1,4 @@
 -- `brief::brief`: the first test finds no byte, and the second one alone.
-use borrow.Author.Rules.{rules}
 use native.Mathlib.Omega.{arith}
 use borrow.Author.Tests.{eqb-true}
 use lib.ListN.{length}

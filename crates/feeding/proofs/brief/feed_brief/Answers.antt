@@ -1,11 +1,9 @@
 -- `brief::feed_brief`: what is refused, or is no character or column, is left as it is; no byte, and one that goes on a run, is fed as `feeding` feeds it.
-use borrow.Author.Rules.{rules}
 use Prim.Native.Nat.{ℕ, ◌≤◌, ◌<◌}
-use mathlib.Core.Bool.{true, false, true≢false}
+use mathlib.Core.Bool.{true, true≢false}
 use mathlib.Core.List.{List}
 use mathlib.Core.Path.{◌≡◌, refl, ap, subst, sym, ◌∙◌}
 use native.Mathlib.Omega.{arith}
-use borrow.Author.Tests.{not-false}
 use lib.ListN.{get_or, length}
 use Rattle.sheet.proofs.Editions.{described_proper}
 use Rattle.printer.specs.declared.Printer.{Printer}

@@ -1,9 +1,7 @@
 -- `brief::feedable`: past both tests of the state it is sound, and where all fits, the machine is ready and the font has its length.
-use borrow.Author.Rules.{rules}
-use mathlib.Core.Bool.{true, false, true≢false}
+use mathlib.Core.Bool.{true, true≢false}
 use mathlib.Core.Path.{◌≡◌, sym, ◌∙◌}
 use native.Mathlib.Omega.{arith}
-use borrow.Author.Tests.{not-false}
 use Rattle.sheet.proofs.Editions.{described_bounded}
 use Rattle.printer.specs.Given.{machine}
 use Rattle.printer.specs.Machine.{Machine, edition_of}

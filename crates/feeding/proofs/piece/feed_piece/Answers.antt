@@ -1,11 +1,9 @@
 -- `piece::feed_piece`: what is no state is 10; with a report of the wrong length nothing is fed; what passes both is fed, kept and told as `feed`
 -- gives it, but for a refusal, which writes neither state nor report.
-use borrow.Author.Rules.{rules}
 use Prim.Native.Nat.{ℕ}
 use mathlib.Core.Bool.{true}
 use mathlib.Core.List.{List}
 use mathlib.Core.Path.{◌≡◌, sym, ◌∙◌}
-use borrow.Author.Tests.{not-false, not-true}
 use lib.ListN.{length}
 use Rattle.protocol.specs.Calls.{Feeding}
 use Rattle.protocol.specs.Given.{given_feeding}

@@ -1,9 +1,7 @@
 -- `piece::unreported`: the state and the lengths are tested as feeding tests them; where all is right, the report alone is wrong.
-use borrow.Author.Rules.{rules}
 use mathlib.Core.Bool.{true}
 use mathlib.Core.Path.{◌≡◌, sym, ◌∙◌}
 use native.Mathlib.Omega.{arith}
-use borrow.Author.Tests.{not-false, not-true}
 use Rattle.sheet.proofs.Editions.{described_bounded}
 use Rattle.printer.specs.Given.{machine}
 use Rattle.printer.specs.Machine.{Machine, edition_of}

@@ -1,6 +1,5 @@
 -- `entering::enter`: the glyph is entered, and then, where the character is underscored, its cell is.
 use mathlib.Core.Path.{◌∙◌}
-use borrow.Author.Rules.{rules}
 use Rattle.glyph.specs.Entering.{enter}
 use Rattle.glyph.proofs.entering.enter.Goals as goal
 

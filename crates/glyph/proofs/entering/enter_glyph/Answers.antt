@@ -5,7 +5,6 @@ use mathlib.Core.Bool.{Bool, false}
 use mathlib.Core.Path.{◌≡◌, ap, ◌∙◌}
 use native.Mathlib.Omega.{arith}
 use lib.ListN.{length}
-use borrow.Author.Rules.{rules}
 use Rattle.glyph.specs.Entering.{cell, enter_glyph}
 use Rattle.glyph.proofs.entering.enter_glyph.Goals as goal
 use Rattle.glyph.proofs.entering.enter_glyph.Goals.{Start}

@@ -1,9 +1,7 @@
 -- `entering::enter_narrow`: each turn enters the next column of the glyph and goes on by a stride, so that after k turns k columns are entered.
-use Prim.Native.Nat.{ℕ, ◌+◌, ◌-◌, ◌≤◌}
-use native.Mathlib.Omega.{arith}
-use lib.ListN.{length}
+use Prim.Native.Nat.{ℕ, ◌-◌}
 use Rattle.glyph.specs.Entering.{enter_narrow}
-use Rattle.glyph.proofs.Turns.{Made, none_made, next_fits, all_made, narrow_turn}
+use Rattle.glyph.proofs.Turns.{Made}
 use Rattle.glyph.proofs.entering.enter_narrow.Given as goal
 
 abbrev pub invariant-loop-k : goal.invariant-loop-k

@@ -1,9 +1,9 @@
 -- `entering::enter_wide`: each turn enters the next column of the glyph twice and goes on by two columns, so that after k turns k columns are entered.
-use Prim.Native.Nat.{ℕ, ◌+◌, ◌*◌, ◌-◌, ◌≤◌}
+use Prim.Native.Nat.{◌+◌, ◌*◌, ◌≤◌}
 use native.Mathlib.Omega.{arith}
 use lib.ListN.{length}
 use Rattle.glyph.specs.Entering.{enter_wide}
-use Rattle.glyph.proofs.Turns.{Made, none_made, next_fits, all_made, wide_turn}
+use Rattle.glyph.proofs.Turns.{none_made, next_fits, all_made, wide_turn}
 use Rattle.glyph.proofs.entering.enter_wide.Goals as goal
 use Rattle.glyph.proofs.entering.enter_wide.Goals.{In-loop-k}
 

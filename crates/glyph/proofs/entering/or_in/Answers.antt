@@ -1,6 +1,5 @@
 -- `entering::or_in`: the store is the definition's own.
 use mathlib.Core.Path.{refl}
-use borrow.Author.Rules.{rules}
 use Rattle.glyph.specs.Entering.{or_in}
 use Rattle.glyph.proofs.entering.or_in.Goals as goal
 

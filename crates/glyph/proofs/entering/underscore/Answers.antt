@@ -1,9 +1,9 @@
 -- `entering::underscore`: each turn sets wire 9 and goes on by two columns, so that after j turns j columns have it.
-use Prim.Native.Nat.{ℕ, ◌+◌, ◌*◌, ◌-◌, ◌≤◌}
+use Prim.Native.Nat.{◌+◌, ◌*◌, ◌≤◌}
 use native.Mathlib.Omega.{arith}
 use lib.ListN.{length}
 use Rattle.glyph.specs.Entering.{underscore}
-use Rattle.glyph.proofs.Turns.{Made, none_made, next_fits, all_made, underscore-turn}
+use Rattle.glyph.proofs.Turns.{none_made, next_fits, all_made, underscore-turn}
 use Rattle.glyph.proofs.entering.underscore.Goals as goal
 use Rattle.glyph.proofs.entering.underscore.Goals.{In-loop-j}
 

@@ -1,9 +1,7 @@
 -- `entering::underscore`: each turn sets wire 9 and goes on by two columns, so that after j turns j columns have it.
-use Prim.Native.Nat.{ℕ, ◌+◌, ◌*◌, ◌-◌, ◌≤◌}
-use native.Mathlib.Omega.{arith}
-use lib.ListN.{length}
+use Prim.Native.Nat.{ℕ, ◌*◌, ◌-◌}
 use Rattle.glyph.specs.Entering.{underscore}
-use Rattle.glyph.proofs.Turns.{Made, none_made, next_fits, all_made, underscore-turn}
+use Rattle.glyph.proofs.Turns.{Made}
 use Rattle.glyph.proofs.entering.underscore.Given as goal
 
 abbrev pub invariant-loop-j : goal.invariant-loop-j

@@ -1,11 +1,9 @@
 -- `words::all_well_formed`: the glyphs before the one at hand have passed; one that fails makes the whole false, and past the last all have passed.
-use Prim.Native.Nat.{◌-◌}
 use mathlib.Core.Path.{sym, ◌∙◌}
 use native.Mathlib.Omega.{arith}
 use borrow.Author.Count.{below_none, below_more}
-use borrow.Author.Tests.{not-false, not-true}
-use Rattle.glyph.specs.Words.{all_well_formed, well_formed}
-use Rattle.glyph.proofs.Each.{Passed, none_fails, one_fails}
+use Rattle.glyph.specs.Words.{all_well_formed}
+use Rattle.glyph.proofs.Each.{none_fails, one_fails}
 use Rattle.glyph.proofs.words.all_well_formed.Goals as goal
 
 pub returns-then-not-well_formed : goal.returns-then-not-well_formed

@@ -1,11 +1,7 @@
 -- `words::all_well_formed`: the glyphs before the one at hand have passed; one that fails makes the whole false, and past the last all have passed.
 use Prim.Native.Nat.{◌-◌}
-use mathlib.Core.Path.{sym, ◌∙◌}
-use native.Mathlib.Omega.{arith}
-use borrow.Author.Count.{below_none, below_more}
-use borrow.Author.Tests.{not-false, not-true}
-use Rattle.glyph.specs.Words.{all_well_formed, well_formed}
-use Rattle.glyph.proofs.Each.{Passed, none_fails, one_fails}
+use Rattle.glyph.specs.Words.{well_formed}
+use Rattle.glyph.proofs.Each.{Passed}
 use Rattle.glyph.proofs.words.all_well_formed.Given as goal
 
 abbrev pub invariant-loop-n : goal.invariant-loop-n

@@ -1,5 +1,4 @@
 -- `words::column`: column k is word k + 1, taken modulo 512.
-use borrow.Author.Rules.{rules}
 use Rattle.glyph.specs.Words.{column}
 use Rattle.glyph.proofs.words.column.Goals as goal
 

@@ -1,5 +1,4 @@
 -- `words::word`: both bytes lie within the glyph, and two bytes make a number of 16 bits.
-use borrow.Author.Rules.{rules}
 use Rattle.glyph.specs.Words.{word}
 use Rattle.glyph.proofs.words.word.Goals as goal
 

@@ -1,10 +1,8 @@
 -- `calls::feed` meets its contract: an unsound state and memory that doesn't fit are answered as `feeding` answers them, and what passes both tests is
 -- ready for its bytes.
-use borrow.Author.Rules.{rules}
 use mathlib.Core.Bool.{true, false}
 use mathlib.Core.Path.{◌≡◌, ap, sym, ◌∙◌}
 use native.Mathlib.Omega.{arith}
-use borrow.Author.Tests.{not-false, not-true}
 use lib.ListN.{length}
 use Rattle.sheet.proofs.Editions.{described_bounded}
 use Rattle.printer.specs.Given.{machine}

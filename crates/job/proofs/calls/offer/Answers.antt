@@ -1,6 +1,5 @@
 -- `calls::offer` meets its contract: what is left of the piece is fed as a part of it, and the bytes taken before are added to the count. Past the
 -- piece's end nothing is left, and nothing is taken.
-use borrow.Author.Rules.{rules}
 use native.Mathlib.Omega.{arith}
 use Rattle.printer.specs.Given.{machine}
 use Rattle.printer.specs.Machine.{Machine}

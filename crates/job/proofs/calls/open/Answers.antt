@@ -1,6 +1,5 @@
 -- `calls::open`: what is refused is answered with the shut state, over the memory as it was lent; what is not starts a job.
 use native.Mathlib.Omega.{arith}
-use borrow.Author.Rules.{rules}
 use mathlib.Core.Path.{◌≡◌, ap, sym, ◌∙◌}
 use Rattle.sheet.specs.declared.Form.{Form}
 use Rattle.printer.specs.declared.Printer.{Printer}

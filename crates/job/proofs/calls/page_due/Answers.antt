@@ -4,7 +4,6 @@ use Prim.Native.Nat.{◌≤◌}
 use mathlib.Core.Bool.{true}
 use mathlib.Core.Path.{◌≡◌, sym, ◌∙◌}
 use native.Mathlib.Omega.{arith}
-use borrow.Author.Tests.{not-false, not-true}
 use Rattle.sheet.proofs.Editions.{described_bounded}
 use Rattle.sheet.proofs.Units.{page_bytes-most}
 use Rattle.printer.specs.Machine.{edition_of}

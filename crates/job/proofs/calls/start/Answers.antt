@@ -1,5 +1,4 @@
 -- `calls::start` meets its contract: what is all 0 and has its length is a blank page, an empty line or an empty store.
-use borrow.Author.Rules.{rules}
 use mathlib.Core.Path.{◌∙◌}
 use Rattle.sheet.specs.Edition.{described}
 use Rattle.sheet.proofs.Emptying.{line_emptied, page_emptied}

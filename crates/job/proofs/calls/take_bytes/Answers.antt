@@ -1,15 +1,11 @@
 -- `calls::take_bytes` meets its contract. The loop keeps `Underway`: to take the whole piece from the first machine is to take what is left of it from
 -- the present one. A run and a quiet byte lead on; the piece's end, the job's limit and a byte that has something to tell end it as they end
 -- `take_bytes`.
-use borrow.Author.Rules.{rules}
-use Prim.Native.Nat.{ℕ, ◌+◌, ◌-◌, ◌<◌}
-use mathlib.Core.List.{List}
+use Prim.Native.Nat.{ℕ, ◌+◌, ◌<◌}
 use mathlib.Core.Path.{◌≡◌, refl, sym, ◌∙◌}
 use native.Mathlib.Omega.{arith}
-use borrow.Author.Tests.{not-false, not-true}
 use lib.ListN.{length}
 use Rattle.sheet.proofs.Editions.{described_proper}
-use Rattle.printer.specs.declared.Printer.{Printer}
 use Rattle.printer.specs.Given.{given, machine}
 use Rattle.printer.specs.Machine.{Machine, edition_of, limit}
 use Rattle.printer.specs.Steps.{Step}

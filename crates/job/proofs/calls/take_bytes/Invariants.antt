@@ -1,21 +1,14 @@
 -- `calls::take_bytes` meets its contract. The loop keeps `Underway`: to take the whole piece from the first machine is to take what is left of it from
 -- the present one. A run and a quiet byte lead on; the piece's end, the job's limit and a byte that has something to tell end it as they end
 -- `take_bytes`.
-use borrow.Author.Rules.{rules}
-use Prim.Native.Nat.{ℕ, ◌+◌, ◌-◌, ◌<◌}
+use Prim.Native.Nat.{ℕ, ◌-◌}
 use mathlib.Core.List.{List}
-use mathlib.Core.Path.{◌≡◌, refl, sym, ◌∙◌}
-use native.Mathlib.Omega.{arith}
-use borrow.Author.Tests.{not-false, not-true}
+use mathlib.Core.Path.{◌≡◌}
 use lib.ListN.{length}
-use Rattle.sheet.proofs.Editions.{described_proper}
 use Rattle.printer.specs.declared.Printer.{Printer}
-use Rattle.printer.specs.Given.{given, machine}
-use Rattle.printer.specs.Machine.{Machine, edition_of, limit}
-use Rattle.printer.specs.Steps.{Step}
-use Rattle.protocol.proofs.Taking.{ready_room}
-use Rattle.runs.proofs.Leading.{run_leads}
-use Rattle.job.proofs.Underway.{Underway, after_run, after_step, at_limit, at_start, ready_here, told, used_up, writable}
+use Rattle.printer.specs.Given.{machine}
+use Rattle.printer.specs.Machine.{edition_of}
+use Rattle.job.proofs.Underway.{Underway}
 use Rattle.job.proofs.calls.take_bytes.Given as goal
 
 pub record Inv (font piece page₀ line₀ staging₀ store₀ page line staging store : List ℕ) (q₀ q : Printer) (i : ℕ) : Type 0 where

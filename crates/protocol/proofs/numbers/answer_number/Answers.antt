@@ -1,6 +1,5 @@
 -- `numbers::answer_number` meets its contract: each arm has the number of its answer.
 use mathlib.Core.Path.{sym, ap, ◌∙◌}
-use borrow.Author.Rules.{rules}
 use Rattle.protocol.specs.declared.Answer.{Answer}
 use Rattle.protocol.specs.Answers.{report}
 use Rattle.protocol.proofs.numbers.answer_number.Goals as goal

@@ -2,7 +2,6 @@
 use mathlib.Core.Path.{sym, ap}
 use Rattle.printer.specs.declared.Closing.{Closing}
 use Rattle.printer.specs.Numbers.{close_report}
-use borrow.Author.Rules.{rules}
 use Rattle.protocol.proofs.numbers.close_number.Goals as goal
 
 pub returns-in-Unsound : goal.returns-in-Unsound

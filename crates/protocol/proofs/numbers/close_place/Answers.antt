@@ -3,7 +3,6 @@ use Prim.Native.Nat.{ℕ}
 use mathlib.Core.Path.{sym, ap}
 use Rattle.printer.specs.declared.Closing.{Closing}
 use Rattle.printer.specs.Numbers.{close_report, value}
-use borrow.Author.Rules.{rules}
 use Rattle.protocol.proofs.numbers.close_place.Goals as goal
 
 abbrev shown : Closing → ℕ

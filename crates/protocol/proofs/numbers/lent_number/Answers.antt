@@ -1,6 +1,5 @@
 -- `numbers::lent_number` meets its contract: each arm has the number of what is lent.
 use mathlib.Core.Path.{sym, ap}
-use borrow.Author.Rules.{rules}
 use Rattle.protocol.specs.Answers.{lent_number}
 use Rattle.protocol.proofs.numbers.lent_number.Goals as goal
 

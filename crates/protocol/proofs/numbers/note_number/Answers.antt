@@ -1,6 +1,5 @@
 -- `numbers::note_number` meets its contract: each arm has the number of its fault.
 use mathlib.Core.Path.{sym, ap}
-use borrow.Author.Rules.{rules}
 use Rattle.printer.specs.Numbers.{note_number}
 use Rattle.protocol.proofs.numbers.note_number.Goals as goal
 

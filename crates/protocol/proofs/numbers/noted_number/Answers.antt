@@ -4,7 +4,6 @@ use mathlib.Core.Path.{sym, ap, ◌∙◌}
 use Rattle.printer.specs.Numbers.{value}
 use Rattle.protocol.specs.declared.Answer.{Answer}
 use Rattle.protocol.specs.Answers.{report}
-use borrow.Author.Rules.{rules}
 use Rattle.protocol.proofs.numbers.noted_number.Goals as goal
 
 abbrev shown : Answer → ℕ

@@ -1,7 +1,6 @@
 -- `numbers::refusal` meets its contract: each arm has what its case has.
 use mathlib.Core.Path.{sym, ap}
 use Rattle.protocol.specs.Answers.{refusal}
-use borrow.Author.Rules.{rules}
 use Rattle.protocol.proofs.numbers.refusal.Goals as goal
 
 pub returns-in-Done : goal.returns-in-Done

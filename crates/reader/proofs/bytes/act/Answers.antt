@@ -1,6 +1,5 @@
 -- `bytes::act`: each arm knows what is pending, and what it calls is the rule for that.
 use mathlib.Core.Path.{◌≡◌, subst, sym}
-use borrow.Author.Rules.{rules}
 use lib.ListN.{length}
 use Rattle.printer.specs.declared.Pending.{Pending}
 use Rattle.printer.specs.declared.Printer.{Printer}

@@ -1,5 +1,4 @@
 -- `bytes::alone`: plot mode parts the bytes first, as in the definition.
-use borrow.Author.Rules.{rules}
 use Rattle.printer.specs.Alone.{alone}
 use Rattle.printer.specs.Given.{machine}
 use Rattle.printer.specs.Machine.{edition_of}

@@ -1,6 +1,5 @@
 -- `bytes::bracket_begun`: where ESC [ begins a command it is pending; else the definition's tests of the byte all fail.
 use mathlib.Core.Path.{◌∙◌}
-use borrow.Author.Rules.{rules}
 use Rattle.printer.specs.Bytes.{text_escape}
 use Rattle.printer.specs.Escapes.{escape}
 use Rattle.reader.proofs.bytes.bracket_begun.Goals as goal

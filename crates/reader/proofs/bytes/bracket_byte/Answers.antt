@@ -1,6 +1,5 @@
 -- `bytes::bracket_byte`: a byte that goes on adds to the numbers; any other ends the command, in a state with nothing pending.
 use mathlib.Core.Path.{subst, sym, ◌∙◌}
-use borrow.Author.Rules.{rules}
 use Rattle.printer.specs.declared.Printer.{Printer}
 use Rattle.printer.specs.Brackets.{bracket}
 use Rattle.printer.specs.Bytes.{bracket_byte}

@@ -1,5 +1,4 @@
 -- `bytes::first_byte`: ESC waits for more; any other byte is a command of its own.
-use borrow.Author.Rules.{rules}
 use borrow.Author.Tests.{eq-eqb, ne_eqb}
 use Rattle.printer.specs.Bytes.{first_byte}
 use Rattle.printer.specs.Given.{machine}

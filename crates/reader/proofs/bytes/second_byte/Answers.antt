@@ -1,7 +1,6 @@
 -- `bytes::second_byte`: plot mode parts the bytes first; in it the command ends before the byte is read.
 use Prim.Native.Nat.{◌≤◌}
 use mathlib.Core.Path.{◌≡◌, subst, sym}
-use borrow.Author.Rules.{rules}
 use lib.ListN.{length}
 use Rattle.printer.specs.declared.Printer.{Printer}
 use Rattle.printer.specs.Bytes.{second_byte}

@@ -1,5 +1,4 @@
 -- `bytes::step`: the byte is counted before it is acted on, as in the definition.
-use borrow.Author.Rules.{rules}
 use Rattle.printer.specs.Bytes.{step}
 use Rattle.reader.proofs.bytes.step.Goals as goal
 

@@ -1,5 +1,4 @@
 -- `bytes::tab_byte`: 00 ends the list, any other byte is an item of it.
-use borrow.Author.Rules.{rules}
 use borrow.Author.Tests.{eq-eqb, ne_eqb}
 use Rattle.printer.specs.Bytes.{tab_byte}
 use Rattle.state.proofs.Tests.{unless, when}

@@ -1,5 +1,4 @@
 -- `bytes::text_byte`: a byte that prints is a character; the arms part the others as the definition's tests do: by name, and else by their range.
-use borrow.Author.Rules.{rules}
 use Prim.Native.Nat.{ℕ}
 use mathlib.Core.List.{List}
 use mathlib.Core.Logic.{inl, inr}

@@ -1,5 +1,4 @@
 -- `bytes::text_escape`: four bytes begin longer commands and [ where it can, the rest end theirs here; the arms are the definition's tests in its order.
-use borrow.Author.Rules.{rules}
 use Prim.Native.Nat.{ℕ}
 use mathlib.Core.Bool.{Bool, false, ◌&&◌}
 use mathlib.Core.Path.{◌≡◌, ◌∙◌}

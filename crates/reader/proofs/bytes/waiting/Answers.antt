@@ -1,5 +1,4 @@
 -- `bytes::waiting`: nothing but what is pending changes.
-use borrow.Author.Rules.{rules}
 use Rattle.reader.proofs.bytes.waiting.Goals as goal
 
 pub returns : goal.returns

@@ -1,12 +1,10 @@
 -- `byte::character`: a byte that prints and whose cell has room is a run of one; another is none.
 use mathlib.Core.Bool.{not}
-use borrow.Author.Rules.{rules}
 use Prim.Native.Nat.{ℕ, ◌+◌, ◌*◌, ◌≤◌}
 use mathlib.Core.Bool.{true}
 use mathlib.Core.List.{[], ◌∷◌}
 use mathlib.Core.Path.{◌≡◌, refl, ap, sym}
 use native.Mathlib.Omega.{arith}
-use borrow.Author.Tests.{not-true}
 use Rattle.sheet.proofs.Editions.{described_bounded, described_proper}
 use Rattle.printer.specs.Alone.{prints}
 use Rattle.printer.specs.Machine.{edition_of}

@@ -1,13 +1,11 @@
 -- `byte::column`: a byte that is a column and fits is a run of one; another is none.
 use mathlib.Core.Bool.{not}
 use mathlib.Core.Path.{ap}
-use borrow.Author.Rules.{rules}
 use Prim.Native.Nat.{◌+◌, ◌≤◌, ◌<◌}
 use mathlib.Core.Bool.{true}
 use mathlib.Core.List.{[], ◌∷◌}
 use mathlib.Core.Path.{◌≡◌, refl, sym}
 use native.Mathlib.Omega.{arith}
-use borrow.Author.Tests.{not-true}
 use Rattle.sheet.proofs.Editions.{described_bounded, described_proper}
 use Rattle.printer.specs.Machine.{edition_of}
 use Rattle.printer.specs.Plotting.{plots}

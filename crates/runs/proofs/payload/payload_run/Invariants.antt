@@ -1,17 +1,14 @@
 -- `payload::payload_run`: each byte that the download lacks leads the machine one staged byte on; a download that has all of them ends the run.
-use borrow.Author.Rules.{rules}
-use Prim.Native.Nat.{ℕ, ◌-◌, ◌<◌}
+use Prim.Native.Nat.{ℕ, ◌-◌}
 use mathlib.Core.List.{List}
-use mathlib.Core.Path.{◌≡◌, refl, sym, ◌∙◌}
-use native.Mathlib.Omega.{arith}
+use mathlib.Core.Path.{◌≡◌}
 use lib.ListN.{length}
 use Rattle.printer.specs.declared.Load.{Load}
 use Rattle.printer.specs.declared.Printer.{Printer}
 use Rattle.printer.specs.Given.{machine}
-use Rattle.printer.specs.Machine.{edition_of, limit}
+use Rattle.printer.specs.Machine.{edition_of}
 use Rattle.runs.specs.Runs.{loading}
-use Rattle.runs.proofs.Running.{Runs, Taken, another_byte, none_taken, one_more, room_for_it, runs_over}
-use Rattle.runs.proofs.Staged.{begins, staged_on, staged_out}
+use Rattle.runs.proofs.Running.{Runs, Taken}
 use Rattle.runs.proofs.payload.payload_run.Given as goal
 
 -- k bytes are staged

@@ -1,5 +1,4 @@
 -- `plots::draws`: the tests of `&&` in the order that the definition takes them.
-use borrow.Author.Rules.{rules}
 use Rattle.runs.proofs.plots.draws.Goals as goal
 
 pub returns-then-plots : goal.returns-then-plots

@@ -1,21 +1,15 @@
 -- `plots::plot_run`: each byte that is a column and fits leads the machine one column on; the first that is none ends the run.
 use mathlib.Core.Bool.{not}
 use mathlib.Core.Path.{ap}
-use borrow.Author.Rules.{rules}
-use Prim.Native.Nat.{ℕ, ◌+◌, ◌-◌, ◌≤◌, ◌<◌}
+use Prim.Native.Nat.{◌+◌, ◌≤◌, ◌<◌}
 use mathlib.Core.Bool.{true}
-use mathlib.Core.List.{List}
 use mathlib.Core.Path.{◌≡◌, refl, sym, ◌∙◌}
 use native.Mathlib.Omega.{arith}
-use borrow.Author.Tests.{not-true}
 use lib.ListN.{get_or, length}
 use Rattle.sheet.proofs.Editions.{described_bounded, described_proper}
-use Rattle.printer.specs.declared.Printer.{Printer}
-use Rattle.printer.specs.Given.{machine}
 use Rattle.printer.specs.Plotting.{plots}
 use Rattle.printer.specs.Machine.{edition_of, limit}
-use Rattle.runs.specs.Runs.{Plotting}
-use Rattle.runs.proofs.Running.{Runs, Taken, another_byte, none_taken, one_more, room_for_it, runs_nowhere, runs_over}
+use Rattle.runs.proofs.Running.{another_byte, none_taken, one_more, room_for_it, runs_nowhere, runs_over}
 use Rattle.runs.proofs.Plotted.{drawing, on_line, plots_still, plotted_on, plotted_out}
 use Rattle.runs.proofs.plots.plot_run.Goals as goal
 use Rattle.runs.proofs.plots.plot_run.Goals.{Else-not-draws, In-loop-k, Start}

@@ -1,20 +1,13 @@
 -- `plots::plot_run`: each byte that is a column and fits leads the machine one column on; the first that is none ends the run.
-use borrow.Author.Rules.{rules}
-use Prim.Native.Nat.{ℕ, ◌+◌, ◌-◌, ◌≤◌, ◌<◌}
-use mathlib.Core.Bool.{true}
+use Prim.Native.Nat.{ℕ, ◌-◌, ◌≤◌}
 use mathlib.Core.List.{List}
-use mathlib.Core.Path.{◌≡◌, refl, sym, ◌∙◌}
-use native.Mathlib.Omega.{arith}
-use borrow.Author.Tests.{not-true}
-use lib.ListN.{get_or, length}
-use Rattle.sheet.proofs.Editions.{described_bounded, described_proper}
+use mathlib.Core.Path.{◌≡◌}
+use lib.ListN.{length}
 use Rattle.printer.specs.declared.Printer.{Printer}
 use Rattle.printer.specs.Given.{machine}
-use Rattle.printer.specs.Plotting.{plots}
-use Rattle.printer.specs.Machine.{edition_of, limit}
+use Rattle.printer.specs.Machine.{edition_of}
 use Rattle.runs.specs.Runs.{Plotting}
-use Rattle.runs.proofs.Running.{Runs, Taken, another_byte, none_taken, one_more, room_for_it, runs_nowhere, runs_over}
-use Rattle.runs.proofs.Plotted.{drawing, on_line, plots_still, plotted_on, plotted_out}
+use Rattle.runs.proofs.Running.{Runs, Taken}
 use Rattle.runs.proofs.plots.plot_run.Given as goal
 
 -- k columns are plotted

@@ -1,5 +1,4 @@
 -- `runs::fitting`: all of the piece where it is shorter than the job's room, and else as many bytes as there is room for.
-use borrow.Author.Rules.{rules}
 use borrow.Author.Tests.{le-ltb, lt-ltb}
 use Rattle.runs.proofs.runs.fitting.Goals as goal
 

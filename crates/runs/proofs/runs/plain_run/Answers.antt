@@ -1,5 +1,4 @@
 -- `runs::plain_run`: columns in plot mode, characters outside it; on a plot line that plot mode has left, no run.
-use borrow.Author.Rules.{rules}
 use Rattle.printer.specs.Given.{machine}
 use Rattle.runs.specs.Runs.{goes_on}
 use Rattle.runs.proofs.Running.{between}

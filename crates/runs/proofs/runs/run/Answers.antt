@@ -1,5 +1,4 @@
 -- `runs::run`: with nothing pending and in a payload there is a run; a command between its bytes leads nowhere.
-use borrow.Author.Rules.{rules}
 use Prim.Native.Nat.{ℕ}
 use mathlib.Core.List.{List}
 use mathlib.Core.Bool.{false}

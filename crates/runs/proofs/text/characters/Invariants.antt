@@ -1,20 +1,14 @@
 -- `text::characters`: each byte that prints and whose cell has room leads the machine one character on; the first that does not ends the run.
-use borrow.Author.Rules.{rules}
-use Prim.Native.Nat.{ℕ, ◌+◌, ◌-◌, ◌*◌, ◌≤◌, ◌<◌}
-use mathlib.Core.Bool.{cond, true}
+use Prim.Native.Nat.{ℕ, ◌-◌, ◌≤◌}
+use mathlib.Core.Bool.{cond}
 use mathlib.Core.List.{List}
-use mathlib.Core.Path.{◌≡◌, refl, ap, sym, ◌∙◌}
-use native.Mathlib.Omega.{arith}
-use borrow.Author.Tests.{not-true}
-use lib.ListN.{get_or, length}
-use Rattle.sheet.proofs.Editions.{described_bounded, described_proper}
+use mathlib.Core.Path.{◌≡◌}
+use lib.ListN.{length}
 use Rattle.printer.specs.declared.Printer.{Printer}
-use Rattle.printer.specs.Alone.{prints}
 use Rattle.printer.specs.Given.{machine}
-use Rattle.printer.specs.Machine.{edition_of, limit}
+use Rattle.printer.specs.Machine.{edition_of}
 use Rattle.runs.specs.Runs.{Typing}
-use Rattle.runs.proofs.Running.{Runs, Taken, another_byte, none_taken, one_more, room_for_it, runs_nowhere, runs_over}
-use Rattle.runs.proofs.Typed.{Pace, cell_most, entering, roomy, stays_on, stride_most, typed_on, typed_out, types_still}
+use Rattle.runs.proofs.Running.{Runs, Taken}
 use Rattle.runs.proofs.text.characters.Given as goal
 
 -- k characters are entered

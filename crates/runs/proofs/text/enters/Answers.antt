@@ -1,5 +1,4 @@
 -- `text::enters`: the tests of `&&` in the order that the definition takes them.
-use borrow.Author.Rules.{rules}
 use Rattle.runs.proofs.text.enters.Goals as goal
 
 pub returns-then-prints : goal.returns-then-prints

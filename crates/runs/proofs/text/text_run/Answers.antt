@@ -1,5 +1,4 @@
 -- `text::text_run`: the glyphs are those of the store or of the font, as the style says.
-use borrow.Author.Rules.{rules}
 use Rattle.runs.proofs.text.text_run.Goals as goal
 
 pub returns-then-p : goal.returns-then-p

@@ -1,8 +1,7 @@
 -- `clearing::blank`: each turn makes one of the bytes 0, so that the first `i` are 0 and the others as they were; at the end all are 0.
 use Prim.Native.Nat.{◌-◌}
 use lib.ListN.{length}
-use borrow.Author.Rules.{rules}
-use Rattle.sheet.proofs.Emptying.{Emptied, none_emptied, emptied_more, emptied}
+use Rattle.sheet.proofs.Emptying.{Emptied}
 use Rattle.sheet.proofs.clearing.blank.Given as goal
 
 abbrev pub invariant-loop-i : goal.invariant-loop-i

@@ -1,7 +1,5 @@
-use Prim.Native.Nat.{◌-◌}
-use lib.ListN.{length}
 use borrow.Author.Rules.{rules}
-use Rattle.sheet.proofs.Emptying.{Emptied, none_emptied, emptied_more, emptied}
+use Rattle.sheet.proofs.Emptying.{none_emptied, emptied_more, emptied}
 use Rattle.sheet.proofs.clearing.empty.Goals as goal
 
 pub loop-c-init : goal.loop-c-init

@@ -1,8 +1,7 @@
 -- `clearing::empty`: each turn makes one of the columns 0, so that the first `c` are 0 and the others as they were; at the end all are 0.
 use Prim.Native.Nat.{◌-◌}
 use lib.ListN.{length}
-use borrow.Author.Rules.{rules}
-use Rattle.sheet.proofs.Emptying.{Emptied, none_emptied, emptied_more, emptied}
+use Rattle.sheet.proofs.Emptying.{Emptied}
 use Rattle.sheet.proofs.clearing.empty.Given as goal
 
 abbrev pub invariant-loop-c : goal.invariant-loop-c

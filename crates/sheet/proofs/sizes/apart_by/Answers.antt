@@ -1,6 +1,5 @@
 -- `sizes::apart_by`: each arm is the definition at the pitch that the match has found.
 use mathlib.Core.Path.{sym, ap}
-use borrow.Author.Rules.{rules}
 use Rattle.sheet.specs.Edition.{apart_by}
 use Rattle.sheet.proofs.sizes.apart_by.Goals as goal
 

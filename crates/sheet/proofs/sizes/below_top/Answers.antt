@@ -1,7 +1,6 @@
 -- `sizes::below_top`: the test with the form's first row.
 use mathlib.Core.Path.{ap}
 use lib.Dec.{leb}
-use borrow.Author.Rules.{rules}
 use Rattle.sheet.specs.declared.Row.{Row}
 use Rattle.sheet.specs.Form.{below_top}
 use Rattle.sheet.proofs.sizes.below_top.Goals as goal

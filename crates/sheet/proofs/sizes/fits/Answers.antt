@@ -3,7 +3,6 @@ use Prim.Native.Nat.{ℕ, ◌+◌, ◌*◌}
 use mathlib.Core.Path.{◌≡◌, ap, ◌∙◌}
 use native.Mathlib.Omega.{arith}
 use lib.Dec.{leb}
-use borrow.Author.Rules.{rules}
 use Rattle.sheet.specs.Form.{fits, rows_per_line}
 use Rattle.sheet.proofs.Units.{lines-rows-most, no_room, room}
 use Rattle.sheet.proofs.sizes.fits.Goals as goal

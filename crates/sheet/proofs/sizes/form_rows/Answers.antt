@@ -2,7 +2,6 @@
 use Prim.Native.Nat.{ℕ, ◌*◌, ◌≤◌}
 use mathlib.Core.Path.{◌≡◌, ap}
 use native.Mathlib.Omega.{arith}
-use borrow.Author.Rules.{rules}
 use Rattle.sheet.specs.Form.{form_rows}
 use Rattle.sheet.proofs.Units.{form_rows-most}
 use Rattle.sheet.proofs.sizes.form_rows.Goals as goal
@@ -19,4 +18,6 @@ pub overflow_mul-result : goal.overflow_mul-result
 overflow_mul-result c = omega (arith, rows_are (goal.at.overflow_mul-result c).After-rows_per_line, few (goal.at.overflow_mul-result c).After-rows_per_line)
 
 pub returns : goal.returns
-returns c = record { value = rows_are (goal.at.returns c).After-rows_per_line; upper_bound = omega (arith, rows_are (goal.at.returns c).After-rows_per_line, few (goal.at.returns c).After-rows_per_line) }
+returns c =
+    let at = (goal.at.returns c).After-rows_per_line in
+    record { value = rows_are at; upper_bound = omega (arith, rows_are at, few at) }

@@ -3,9 +3,8 @@ use Prim.Native.Nat.{ℕ, ◌*◌, ◌≤◌}
 use mathlib.Core.Path.{sym, ap, ◌∙◌}
 use native.Mathlib.Omega.{arith}
 use native.Mathlib.Nat.{mul-le-mul_right}
-use borrow.Author.Rules.{rules}
 use Rattle.sheet.specs.declared.Model.{Model}
-use Rattle.sheet.specs.Edition.{apart_by, described, dg6215, grid_at, lp2}
+use Rattle.sheet.specs.Edition.{described, dg6215, grid_at, lp2}
 use Rattle.sheet.proofs.Editions.{apart-most}
 use Rattle.sheet.proofs.sizes.grid.Goals as goal
 use Rattle.sheet.proofs.sizes.grid.Goals.{After-apart_by}

@@ -2,7 +2,6 @@
 use Prim.Native.Nat.{ℕ, ◌+◌, ◌/◌}
 use mathlib.Core.Path.{◌≡◌, ap}
 use native.Mathlib.Omega.{arith}
-use borrow.Author.Rules.{rules}
 use Rattle.sheet.specs.declared.Line.{Line}
 use Rattle.sheet.specs.Form.{line_of}
 use Rattle.sheet.proofs.Units.{line-most, nine_rows}

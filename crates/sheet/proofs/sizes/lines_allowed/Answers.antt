@@ -1,5 +1,4 @@
 -- `sizes::lines_allowed`: where the first test fails the second isn't made, and the whole is false.
-use borrow.Author.Rules.{rules}
 use borrow.Author.Tests.{le-leb, lt-leb}
 use Rattle.sheet.specs.Form.{lines_allowed}
 use Rattle.sheet.proofs.sizes.lines_allowed.Goals as goal

@@ -1,6 +1,5 @@
 -- `sizes::mixed`: each arm is the description at the model that the match has found.
 use mathlib.Core.Path.{sym, ap}
-use borrow.Author.Rules.{rules}
 use Rattle.sheet.specs.declared.Model.{Model}
 use Rattle.sheet.specs.Edition.{described, dg6215, lp2}
 use Rattle.sheet.proofs.sizes.mixed.Goals as goal

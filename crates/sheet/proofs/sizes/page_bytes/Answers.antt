@@ -2,7 +2,6 @@
 use Prim.Native.Nat.{ℕ, ◌*◌}
 use mathlib.Core.Path.{◌≡◌, ap, ◌∙◌}
 use native.Mathlib.Omega.{arith}
-use borrow.Author.Rules.{rules}
 use Rattle.sheet.specs.Edition.{described}
 use Rattle.sheet.specs.Form.{form_rows, page_bytes}
 use Rattle.sheet.proofs.Editions.{described_bounded}

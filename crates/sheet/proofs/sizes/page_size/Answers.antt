@@ -4,7 +4,6 @@ use mathlib.Core.Bool.{true}
 use mathlib.Core.Path.{◌≡◌, ap, sym, ◌∙◌}
 use Prim.Native.Nat.{◌≤◌}
 use native.Mathlib.Omega.{arith}
-use borrow.Author.Tests.{not-false, not-true}
 use Rattle.sheet.specs.Edition.{described}
 use Rattle.sheet.specs.Form.{lines_allowed, new_form, page_bytes}
 use Rattle.sheet.proofs.Editions.{described_bounded}

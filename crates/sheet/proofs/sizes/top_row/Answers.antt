@@ -1,5 +1,4 @@
 -- `sizes::top_row`: the first row of the top margin's line.
-use borrow.Author.Rules.{rules}
 use Rattle.sheet.specs.Form.{top_row}
 use Rattle.sheet.proofs.sizes.top_row.Goals as goal
 

@@ -1,6 +1,5 @@
 -- `sizes::width`: each arm is the description at the model and the pitch that the matches have found.
 use mathlib.Core.Path.{◌≡◌, sym, ap, ◌∙◌}
-use borrow.Author.Rules.{rules}
 use Rattle.sheet.specs.declared.Model.{Model}
 use Rattle.sheet.specs.declared.Model.TheVariants.{Lp2}
 use Rattle.sheet.specs.declared.Pitch.{Pitch}

@@ -1,5 +1,4 @@
 -- `parts::after_reset`: a fresh line and no tabs are all that a reset changes.
-use borrow.Author.Rules.{rules}
 use Rattle.printer.specs.Escapes.{after_reset, clear_tabs}
 use Rattle.state.proofs.parts.after_reset.Goals as goal
 

@@ -1,5 +1,4 @@
 -- `parts::reformed`: the form and its tabs are put into the state, and the head on a fresh line at the form's first row.
-use borrow.Author.Rules.{rules}
 use Rattle.printer.specs.Brackets.{reformed}
 use Rattle.state.proofs.parts.reformed.Goals as goal
 

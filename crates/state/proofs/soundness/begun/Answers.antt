@@ -1,5 +1,4 @@
 -- `soundness::begun`: each arm's command has its place first, and the definition reads that place.
-use borrow.Author.Rules.{rules}
 use Rattle.state.proofs.soundness.begun.Goals as goal
 
 pub returns-in-Escape : goal.returns-in-Escape

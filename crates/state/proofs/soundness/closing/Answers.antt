@@ -1,11 +1,9 @@
 -- `soundness::closing`: a sound state's closing is said by where its command began, and with none begun by whether the line is fresh.
-use borrow.Author.Rules.{rules}
 use mathlib.Core.Path.{◌≡◌, ap, sym, ◌∙◌}
 use Rattle.printer.specs.Machine.{edition_of}
 use Rattle.printer.specs.declared.Begun.{Begun}
 use Rattle.printer.specs.Closing.{closing, close_command, close_line}
 use Rattle.state.proofs.Closed.{closed}
-use Rattle.state.proofs.Tests.{failed, passed}
 use Rattle.state.proofs.soundness.closing.Goals as goal
 use Rattle.state.proofs.soundness.closing.Goals.{After-begun}
 

@@ -2,12 +2,11 @@
 use mathlib.Core.Path.{sym, ◌∙◌}
 use mathlib.Core.Bool.{Bool, true, ◌&&◌}
 use mathlib.Core.Path.{◌≡◌}
-use borrow.Author.Rules.{rules}
 use Rattle.sheet.specs.declared.Form.{Form}
 use Rattle.sheet.specs.Edition.{Edition, described}
 use Rattle.sheet.specs.Form.{lines_allowed, margins_allowed, spacing_allowed}
 use Rattle.printer.specs.Sound.{form_sound}
-use Rattle.state.proofs.Tests.{decides, failed, passed}
+use Rattle.state.proofs.Tests.{decides}
 use Rattle.state.proofs.soundness.form_sound.Goals as goal
 use Rattle.state.proofs.soundness.form_sound.Goals.{Else-not-margins_allowed, Else-not-spacing_allowed}
 

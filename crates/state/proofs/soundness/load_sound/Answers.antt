@@ -1,5 +1,4 @@
 -- `soundness::load_sound`: only a payload has anything to compare, and ESC [ asks the model; the other arms are true at once.
-use borrow.Author.Rules.{rules}
 use Rattle.state.proofs.soundness.load_sound.Goals as goal
 
 pub returns-in-Payload : goal.returns-in-Payload

@@ -1,5 +1,4 @@
 -- `soundness::place_sound`: nothing begun is true at once; else the two numbers are compared.
-use borrow.Author.Rules.{rules}
 use Rattle.state.proofs.soundness.place_sound.Goals as goal
 
 pub returns-in-At : goal.returns-in-At

@@ -1,5 +1,4 @@
 -- `soundness::plot_sound`: the tests of `||` and `&&` in the order that the definition takes them.
-use borrow.Author.Rules.{rules}
 use Rattle.printer.specs.Sound.{plot_sound}
 use Rattle.state.proofs.soundness.plot_sound.Goals as goal
 

@@ -1,5 +1,4 @@
 -- `soundness::rest_sound`: each test that holds leaves the answer to the tests after it; the first that fails makes the whole false.
-use borrow.Author.Rules.{rules}
 use mathlib.Core.Bool.{Bool, true, ◌&&◌}
 use mathlib.Core.Path.{◌≡◌, ap, refl, sym, ◌∙◌}
 use native.Mathlib.Omega.{arith}
@@ -13,7 +12,7 @@ use Rattle.printer.specs.Machine.{edition_of}
 use Rattle.printer.specs.declared.Printer.{Printer}
 use Rattle.printer.specs.Sound.{begun, form_sound, fresh_sound, load_sound, place_sound, sound, tabs_sound}
 use Rattle.printer.specs.Tabs.{line_tabs}
-use Rattle.state.proofs.Tests.{decides, failed, passed}
+use Rattle.state.proofs.Tests.{decides}
 use Rattle.state.proofs.soundness.rest_sound.Goals as goal
 use Rattle.state.proofs.soundness.rest_sound.Goals.{After-place_sound, Else-not-below_top, Else-not-fits, Else-not-fresh_sound}
 use Rattle.state.proofs.soundness.rest_sound.Goals.{Else-not-load_sound, Else-not-place_sound, Else-not-tabs_sound, Else-width-head, Start}
@@ -67,7 +66,8 @@ placed : (c : After-place_sound)
 placed c = c.place_sound.ensures ∙ ap (place_sound _) c.begun.ensures
 
 held7 : (c : Else-not-place_sound) → tests7 c.args.p ≡ true
-held7 c = decides (held6 (goal.at.Else-not-place_sound c).Else-not-load_sound) (sym (placed (goal.at.Else-not-place_sound c).After-place_sound) ∙ c.if-not-place_sound.false)
+held7 c = decides (held6 (goal.at.Else-not-place_sound c).Else-not-load_sound)
+    (sym (placed (goal.at.Else-not-place_sound c).After-place_sound) ∙ c.if-not-place_sound.false)
 
 held8 : (c : Else-not-fresh_sound) → tests8 c.args.p ≡ true
 held8 c = decides (held7 (goal.at.Else-not-fresh_sound c).Else-not-place_sound) (sym c.fresh_sound.ensures ∙ c.if-not-fresh_sound.false)

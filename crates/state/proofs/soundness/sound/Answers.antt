@@ -1,11 +1,6 @@
 -- `soundness::sound`: a form that is not sound makes the whole false; of one that is the rest decides.
 use mathlib.Core.Path.{sym, ◌∙◌}
-use borrow.Author.Rules.{rules}
-use mathlib.Core.Bool.{true}
-use mathlib.Core.Path.{◌≡◌}
-use Rattle.printer.specs.Machine.{edition_of}
-use Rattle.printer.specs.Sound.{form_sound, sound}
-use Rattle.state.proofs.Tests.{failed, passed}
+use Rattle.printer.specs.Sound.{sound}
 use Rattle.state.proofs.soundness.sound.Goals as goal
 
 pub returns-then-not-form_sound : goal.returns-then-not-form_sound

@@ -1,5 +1,4 @@
 -- `tabs::put_bit`: a bit that is or-ed in and then taken away, if it is to be off, leaves the other bits as they were.
-use borrow.Author.Rules.{rules}
 use Prim.Native.Nat.{ℕ, ◌*◌, ◌%◌, ◌^◌, ◌<◌}
 use mathlib.Core.Path.{◌≡◌}
 use native.Mathlib.Omega.{arith}

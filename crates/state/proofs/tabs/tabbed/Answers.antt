@@ -1,5 +1,4 @@
 -- `tabs::tabbed`: lines 1 to 64 have their bits in the low word, 65 to 128 in the high one, and lines past them none.
-use borrow.Author.Rules.{rules}
 use Prim.Native.Nat.{◌-◌, ◌/◌, ◌^◌}
 use mathlib.Core.Path.{sym}
 use native.Mathlib.Omega.{arith}

@@ -1,5 +1,4 @@
 -- `tabs::with_tab`: lines 1 to 64 have their bits in the low word, 65 to 128 in the high one, and lines past them none.
-use borrow.Author.Rules.{rules}
 use borrow.Author.Tests.{le-ltb, lt-ltb}
 use native.Mathlib.Omega.{arith}
 use Rattle.printer.specs.Tabs.{with_tab}

@@ -1,5 +1,4 @@
 -- `groups::eight_compressed`: the fields hold all wires of the eight columns, so striking them by wires strikes the columns.
-use borrow.Author.Rules.{rules}
 use Rattle.striking.proofs.Grouping.{eight_long}
 use Rattle.striking.proofs.groups.eight_compressed.Goals as goal
 

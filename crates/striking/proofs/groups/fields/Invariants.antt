@@ -1,15 +1,9 @@
 -- `groups::fields`: each turn puts the next column below the fields; with those of the columns left below them they are the fields of all eight, and
 -- each takes five bits at most.
-use Prim.Native.Nat.{◌+◌, ◌-◌, ◌*◌, ◌/◌, ◌%◌, ◌^◌, ◌≤◌, ◌<◌}
-use mathlib.Core.Path.{◌≡◌, refl}
-use native.Mathlib.Omega.{arith}
-use native.Mathlib.Nat.{mod-lt}
-use lib.Dec.{lit<}
-use lib.Pow.{shr_le}
-use lib.ListN.{take, drop, get_or}
-use borrow.Author.Rules.{rules}
+use Prim.Native.Nat.{◌-◌, ◌*◌, ◌^◌, ◌≤◌, ◌<◌}
+use mathlib.Core.Path.{◌≡◌}
+use lib.ListN.{take, drop}
 use Rattle.striking.specs.Groups.{fields}
-use Rattle.striking.proofs.Grouping.{field_more, field_last, field_below, fields-small}
 use Rattle.striking.proofs.groups.fields.Given as goal
 
 abbrev pub invariant-loop-k : goal.invariant-loop-k

@@ -1,6 +1,5 @@
 -- `groups::join_byte`: the store is the definition's own.
 use mathlib.Core.Path.{refl}
-use borrow.Author.Rules.{rules}
 use Rattle.striking.specs.Groups.{join_byte}
 use Rattle.striking.proofs.groups.join_byte.Goals as goal
 

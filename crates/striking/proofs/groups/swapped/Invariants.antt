@@ -1,13 +1,7 @@
 -- `groups::swapped`: each turn puts the next byte below those before it; what is left of the number makes of them what all eight make of none.
-use Prim.Native.Nat.{ℕ, ◌+◌, ◌-◌, ◌*◌, ◌/◌, ◌%◌, ◌^◌, ◌≤◌, ◌<◌}
-use mathlib.Core.Path.{◌≡◌, ap}
-use native.Mathlib.Omega.{arith}
-use native.Mathlib.Nat.{div-one, mod-lt}
-use lib.Dec.{lit<}
-use lib.Pow.{pow_mono}
-use borrow.Author.Rules.{rules}
+use Prim.Native.Nat.{◌-◌, ◌*◌, ◌/◌, ◌^◌, ◌≤◌, ◌<◌}
+use mathlib.Core.Path.{◌≡◌}
 use Rattle.striking.specs.Groups.{swapped}
-use Rattle.striking.proofs.Swapping.{swap_more, swap_last, swap_below}
 use Rattle.striking.proofs.groups.swapped.Given as goal
 
 abbrev pub invariant-loop-k : goal.invariant-loop-k

@@ -1,12 +1,11 @@
 -- `lines::columns`: each turn strikes the eight columns that are next; the columns left make of the page what all make of it at entry, and at W
 -- none is left.
-use Prim.Native.Nat.{◌-◌, ◌<◌}
+use Prim.Native.Nat.{◌<◌}
 use native.Mathlib.Omega.{arith}
-use borrow.Author.Rules.{rules}
 use Rattle.sheet.specs.declared.Model.TheVariants.{Lp2}
 use Rattle.sheet.specs.Edition.{lp2}
 use Rattle.sheet.proofs.Editions.{described_proper}
-use Rattle.striking.proofs.Striking.{Walked, none_walked, walked_more, all_walked}
+use Rattle.striking.proofs.Striking.{none_walked, walked_more, all_walked}
 use Rattle.striking.proofs.lines.columns.Goals as goal
 use Rattle.striking.proofs.lines.columns.Goals.{In-loop-column}
 

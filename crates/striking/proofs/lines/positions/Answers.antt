@@ -1,12 +1,11 @@
 -- `lines::positions`: each turn strikes the eighty positions that are next; those left make of the page what all make of it at entry, and at W none is
 -- left.
-use Prim.Native.Nat.{◌-◌, ◌<◌}
+use Prim.Native.Nat.{◌<◌}
 use native.Mathlib.Omega.{arith}
-use borrow.Author.Rules.{rules}
 use Rattle.sheet.specs.declared.Model.TheVariants.{Dg6215}
 use Rattle.sheet.specs.Edition.{dg6215}
 use Rattle.sheet.proofs.Editions.{described_proper}
-use Rattle.striking.proofs.Striking.{Walked, none_walked, walked_more, all_walked}
+use Rattle.striking.proofs.Striking.{none_walked, walked_more, all_walked}
 use Rattle.striking.proofs.lines.positions.Goals as goal
 use Rattle.striking.proofs.lines.positions.Goals.{In-loop-position}
 

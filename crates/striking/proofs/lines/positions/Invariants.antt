@@ -1,12 +1,8 @@
 -- `lines::positions`: each turn strikes the eighty positions that are next; those left make of the page what all make of it at entry, and at W none is
 -- left.
-use Prim.Native.Nat.{◌-◌, ◌<◌}
-use native.Mathlib.Omega.{arith}
-use borrow.Author.Rules.{rules}
+use Prim.Native.Nat.{◌-◌}
 use Rattle.sheet.specs.declared.Model.TheVariants.{Dg6215}
-use Rattle.sheet.specs.Edition.{dg6215}
-use Rattle.sheet.proofs.Editions.{described_proper}
-use Rattle.striking.proofs.Striking.{Walked, none_walked, walked_more, all_walked}
+use Rattle.striking.proofs.Striking.{Walked}
 use Rattle.striking.proofs.lines.positions.Given as goal
 
 abbrev pub invariant-loop-position : goal.invariant-loop-position

@@ -1,6 +1,5 @@
 -- `lines::strike`: the line is struck, then emptied; neither touches what the other wrote.
 use mathlib.Core.Path.{◌∙◌}
-use borrow.Author.Rules.{rules}
 use Rattle.sheet.proofs.Emptying.{line_emptied}
 use Rattle.striking.proofs.lines.strike.Goals as goal
 

@@ -1,11 +1,8 @@
 -- `positions::any_wires`: the columns are joined from the last to the first; the wires of those from column k on are joined.
 use Prim.Native.Nat.{◌≤◌}
 use mathlib.Core.Path.{◌≡◌}
-use native.Mathlib.Omega.{arith}
 use lib.ListN.{drop, take}
-use borrow.Author.Rules.{rules}
 use Rattle.striking.specs.Groups.{any_wires}
-use Rattle.striking.proofs.Grouping.{any_none, any_more, any_all}
 use Rattle.striking.proofs.positions.any_wires.Given as goal
 
 abbrev pub invariant-loop-k : goal.invariant-loop-k

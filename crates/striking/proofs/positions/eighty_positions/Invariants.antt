@@ -1,12 +1,7 @@
 -- `positions::eighty_positions`: positions with no wire leave the page as it is; else each turn strikes the sixteen that are next, and those left make of
 -- the page what all eighty make of it at entry.
-use Prim.Native.Nat.{◌+◌, ◌-◌, ◌≤◌}
-use native.Mathlib.Omega.{arith}
-use lib.ListN.{length}
-use borrow.Author.Rules.{rules}
-use Rattle.sheet.specs.Edition.{dg6215}
-use Rattle.striking.proofs.Grouping.{none_set}
-use Rattle.striking.proofs.Striking.{eighty_on_line, EightyLeft, eighty_left, sixteen_more, eighty_struck}
+use Prim.Native.Nat.{◌-◌}
+use Rattle.striking.proofs.Striking.{EightyLeft}
 use Rattle.striking.proofs.positions.eighty_positions.Given as goal
 
 abbrev pub invariant-loop-k : goal.invariant-loop-k

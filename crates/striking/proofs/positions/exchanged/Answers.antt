@@ -2,7 +2,6 @@
 use Prim.Native.Nat.{ℕ, ◌*◌, ◌/◌}
 use mathlib.Core.Path.{ap}
 use lib.Bits.{bit_and, bit_xor}
-use borrow.Author.Rules.{rules}
 use Rattle.striking.specs.Turning.{made, turn}
 use Rattle.striking.proofs.Grouping.{masked-fits}
 use Rattle.striking.proofs.positions.exchanged.Goals as goal

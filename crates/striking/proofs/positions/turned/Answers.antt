@@ -2,7 +2,6 @@
 use Prim.Native.Nat.{ℕ}
 use mathlib.Core.Path.{refl, ap, ◌∙◌}
 use mathlib.Core.List.{[], ◌∷◌}
-use borrow.Author.Rules.{rules}
 use Rattle.striking.specs.Turning.{number, made, turn, turned}
 use Rattle.striking.proofs.positions.turned.Goals as goal
 
