@@ -6,7 +6,7 @@ use native.Mathlib.Omega.{arith}
 use lib.Bits.{or_lt}
 use lib.ListN.{get_or}
 use Rattle.sheet.specs.Held.{AllBelow}
-use Rattle.sheet.proofs.Held.{all_get_d, all_set}
+use Rattle.sheet.proofs.Held.{all-get_or, all_set}
 use Rattle.glyph.specs.Entering.{cell, enter, enter_glyph, enter_narrow, enter_wide, or_in, underscore}
 use Rattle.glyph.specs.Words.{column}
 
@@ -19,7 +19,7 @@ pub or_in-below : (at wires : ℕ) (line : List ℕ) → wires < 65536 → AllBe
 unfolding or_in
 or_in-below at wires line w h =
     let P : ℕ → Type 0 = λ x. x < 65536 in
-    all_set P line at _ h (or_lt 16 wires (get_or line at 0) w (all_get_d P line at 0 h (omega arith)))
+    all_set P line at _ h (or_lt 16 wires (get_or line at 0) w (all-get_or P line at 0 h (omega arith)))
 
 -- a glyph's column has nine wires
 column-below : (glyphs : List ℕ) (n k : ℕ) → column glyphs n k < 65536

@@ -83,14 +83,14 @@ module _ {e : Edition} (proper : Proper e) where
   job_on_form h font before b d p = byte_on_form (run_ready proper font before h) b d p
 
 -- A dot is black after some strikes exactly where it was black before them or one of them put it there.
-module _ {e : Edition} (proper : Proper e) (f : Form) (r : Row) (g : Grid) (on_Row : g.0 < 8 * e.bytes) where
+module _ {e : Edition} (proper : Proper e) (f : Form) (r : Row) (g : Grid) (on_row : g.0 < 8 * e.bytes) where
   pub strikes_black : (ss : List Strike) (page : List ℕ) → AllFitting f ss → length page ≡ page_bytes e f
       → Black (strike_all e ss page) (dot_at e r g) ↔ (Black page (dot_at e r g) ⊎ PutBy e ss r g)
   unfolding strike_all page_bytes
   strikes_black [] page h l = (λ p. inl p, λ p. ⊎_elim (λ b. b) (λ q. absurd q) p)
   strikes_black (s ∷ ss) page h l =
       let room : (s.row.0 + 9) * e.bytes ≤ length page = omega (arith, mul-le-mul_right e.bytes h.0, l) in
-      let one = struck_black proper page s.line s.row s.pitch room r g on_Row in
+      let one = struck_black proper page s.line s.row s.pitch room r g on_row in
       let rest = strikes_black ss (struck e page s.line s.row s.pitch) h.1 (length-struck e page s.line s.row s.pitch ∙ l) in (
         λ p. ⊎_elim (λ b. ⊎_elim (λ q. inl q) (λ q. inr (inl q)) (one.0 b)) (λ q. inr (inr q)) (rest.0 p),
         λ p. rest.1 (⊎_elim (λ b. inl (one.1 (inl b))) (λ q. ⊎_elim (λ t. inl (one.1 (inr t))) (λ t. inr t) q) p),

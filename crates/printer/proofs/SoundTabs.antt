@@ -18,14 +18,14 @@ use Rattle.printer.specs.Terminators.{first_tab}
 use Rattle.printer.specs.Facts.{SoundTabs}
 use Rattle.printer.proofs.TabBits.{past_through, put_tab}
 
-getD_clear : (n i : ℕ) → get_or (replicate n false) i false ≡ false
-getD_clear zero i = refl
-getD_clear (suc n) zero = refl
-getD_clear (suc n) (suc i) = getD_clear n i
+get_or_clear : (n i : ℕ) → get_or (replicate n false) i false ≡ false
+get_or_clear zero i = refl
+get_or_clear (suc n) zero = refl
+get_or_clear (suc n) (suc i) = get_or_clear n i
 
 pub tabs_cleared : (lines : ℕ) → SoundTabs lines (line_tabs no_tabs)
 unfolding line_tabs word_tabs no_tabs
-tabs_cleared lines = record { inside = λ i t. absurd (subst T (getD_clear 128 i) t) }
+tabs_cleared lines = record { inside = λ i t. absurd (subst T (get_or_clear 128 i) t) }
 
 module _ {lines : ℕ} {tabs : List Bool} (h : SoundTabs lines tabs) where
   set_inside : (on : Bool) (k : ℕ) → k < lines → (i : ℕ) (s : Bool) → eqb i k ≡ s → T (get_or (set tabs k on) i false) → i < lines

@@ -124,14 +124,14 @@ module _ (e : Edition) (font piece : List ℕ) (m : Machine) where
 pub feeding_black : {e : Edition} → Proper e → (font piece : List ℕ) (m : Machine) (r : Row) (g : Grid) → g.0 < 8 * e.bytes
     → Black (feeding e font piece m).machine.page (dot_at e r g) ↔ (Black m.page (dot_at e r g) ⊎ PutBy e (feeding_strikes e font piece m) r g)
 unfolding strike_all
-feeding_black {e} proper font piece m r g on_Row =
+feeding_black {e} proper font piece m r g on_row =
     rw (feeding-page e font piece m) (go (feeding_strikes e font piece m) ((feeding_inked e font piece m).fitting proper) (feeding_size e font piece m))
   where
     go : (ss : List Strike) → AllFitting m.printer.form ss → Size e font piece m ss
         → Black (strike_all e ss m.page) (dot_at e r g) ↔ (Black m.page (dot_at e r g) ⊎ PutBy e ss r g)
     go [] on q = (λ p. inl p, λ p. ⊎_elim (λ b. b) (λ t. absurd t) p)
     go (s ∷ ss) on (inl q) = let z : ◌≡◌ {A = ℕ} 0 1 = cc in absurd (omega arith)
-    go (s ∷ ss) on (inr l) = strikes_black proper m.printer.form r g on_Row (s ∷ ss) m.page on l
+    go (s ∷ ss) on (inr l) = strikes_black proper m.printer.form r g on_row (s ∷ ss) m.page on l
 
 -- every dot that a feeding puts down lies on a row of the form, within the bits of the page, whatever the state and the memory lent
 pub feeding-on-form : {e : Edition} → Proper e → (font piece : List ℕ) (m : Machine) (d : ℕ) → In d (put_down e (feeding_strikes e font piece m))

@@ -17,10 +17,10 @@ use Rattle.sheet.proofs.Editions.{Countable}
 use Rattle.sheet.proofs.Units.{twelve_rows}
 
 module _ {A : Type 0} (P : A → Type 0) where
-  pub all_get_d : (xs : List A) (i : ℕ) (a : A) → All P xs → P a → P (get_or xs i a)
-  all_get_d [] i a h p = p
-  all_get_d (x ∷ xs) zero a h p = h.0
-  all_get_d (x ∷ xs) (suc i) a h p = all_get_d xs i a h.1 p
+  pub all-get_or : (xs : List A) (i : ℕ) (a : A) → All P xs → P a → P (get_or xs i a)
+  all-get_or [] i a h p = p
+  all-get_or (x ∷ xs) zero a h p = h.0
+  all-get_or (x ∷ xs) (suc i) a h p = all-get_or xs i a h.1 p
 
   pub all_set : (xs : List A) (i : ℕ) (a : A) → All P xs → P a → All P (set xs i a)
   all_set [] i a h p = tt
@@ -57,7 +57,7 @@ unfolding blacken
 blacken-below page d h =
     let P : ℕ → Type 0 = λ x. x < 256 in
     all_set P page (d / 8) _ h
-    (or_lt 8 (get_or page (d / 8) 0) (2 ^ (7 - d % 8)) (all_get_d P page (d / 8) 0 h (omega arith))
+    (or_lt 8 (get_or page (d / 8) 0) (2 ^ (7 - d % 8)) (all-get_or P page (d / 8) 0 h (omega arith))
     (omega (arith, pow_mono {i = 7 - d % 8} {j = 7} (omega arith))))
 
 blacken_all-below : (page ds : List ℕ) → AllBelow 256 page → AllBelow 256 (blacken_all page ds)

@@ -6,8 +6,7 @@ use Rattle.feeding.proofs.feed_words.Goals.{After-feed_piece}
 
 pub returns-then-feed_brief : goal.returns-then-feed_brief
 returns-then-feed_brief c =
-    let k = c in
-    let fed = k.feed_brief.ensures.done c.if-feed_brief.true in
+    let fed = c.feed_brief.ensures.done c.if-feed_brief.true in
     record { outcome = fed.0; sound = λ m. fed.1 }
 
 -- what `feed_piece` gave back

@@ -13,8 +13,7 @@ shape_of-state c = c.six.auto.state ∙ simp length-set
 
 pub returns : goal.returns
 returns c =
-    let s = c in
-    let whole = wrote_new s.args.model s.args.lines s.args.spacing s.args.state.now s.requires c.model_word.ensures
+    let whole = wrote_new c.args.model c.args.lines c.args.spacing c.args.state.now c.requires c.model_word.ensures
     c.six.ensures.written in record { written = whole.0; sound = whole.1 }
 
 pub bounds-state-1 : goal.bounds-state-1

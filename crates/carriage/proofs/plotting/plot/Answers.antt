@@ -21,8 +21,7 @@ overflow_add-next c =
 
 pub or_in-requires : goal.or_in-requires
 or_in-requires c =
-    let s = c in
-    let p = s.args.p in
+    let p = c.args.p in
     let e = described_proper p.model in
     omega (
       arith,
@@ -31,7 +30,7 @@ or_in-requires c =
       c.if-next-width.true,
       c.width.ensures,
       c.stride.ensures,
-      s.requires.1,
+      c.requires.1,
     )
 
 pub returns-then-next-width : goal.returns-then-next-width

@@ -35,18 +35,17 @@ overflow_mul-next c = omega (arith, cell_most c)
 
 pub overflow_add-next : goal.overflow_add-next
 overflow_add-next c =
-    let s = c in omega (arith, cell_most c, s.requires.0.column, (described_bounded s.args.p.model).columns)
+    omega (arith, cell_most c, c.requires.0.column, (described_bounded c.args.p.model).columns)
 
 pub draw-requires : goal.draw-requires
 draw-requires c =
-    let s = c in
-    let p = s.args.p in
+    let p = c.args.p in
     let e = described_proper p.model in
     let k = (goal.at.draw-requires c).After-cell in
     let some : 1 ≤ k.stride-step.result = omega (arith, k.stride-step.ensures, e.takes p.style.pitch) in
     let fits = cell-fits e p.style.pitch p.style.elongated p.head.column k.stride-step.result k.cell.ensures
-    c.width.ensures s.requires.0.line c.if-next-width.true in
-    record { room = (some, stride_most k, fits); stores = (s.requires.0.store, s.requires.0.resident, s.requires.1) }
+    c.width.ensures c.requires.0.line c.if-next-width.true in
+    record { room = (some, stride_most k, fits); stores = (c.requires.0.store, c.requires.0.resident, c.requires.1) }
 
 pub returns-then-next-width : goal.returns-then-next-width
 returns-then-next-width c page staging =

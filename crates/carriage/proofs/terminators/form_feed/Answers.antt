@@ -7,7 +7,7 @@ use Rattle.carriage.proofs.terminators.form_feed.Goals as goal
 
 pub top_row-requires : goal.top_row-requires
 top_row-requires c =
-    let s = c in top_bound s.requires (described_bounded s.args.p.model).longest
+    top_bound c.requires (described_bounded c.args.p.model).longest
 
 pub returns : goal.returns
 returns c staging store =

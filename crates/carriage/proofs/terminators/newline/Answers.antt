@@ -8,15 +8,15 @@ use Rattle.carriage.proofs.terminators.newline.Goals as goal
 
 pub lower-next-requires : goal.lower-next-requires
 lower-next-requires c =
-    let s = c in record { row_bound = row_bound s.requires (described_bounded s.args.p.model).longest; rows_bound = c.advance.ensures.1 }
+    record { row_bound = row_bound c.requires (described_bounded c.args.p.model).longest; rows_bound = c.advance.ensures.1 }
 
 pub fits-requires : goal.fits-requires
 fits-requires c =
-    let s = c in bottom_bound s.requires (described_bounded s.args.p.model).longest
+    bottom_bound c.requires (described_bounded c.args.p.model).longest
 
 pub top_row-requires : goal.top_row-requires
 top_row-requires c =
-    let s = c in top_bound s.requires (described_bounded s.args.p.model).longest
+    top_bound c.requires (described_bounded c.args.p.model).longest
 
 pub returns-then-fits : goal.returns-then-fits
 returns-then-fits c staging store =

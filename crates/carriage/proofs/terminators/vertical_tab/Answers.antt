@@ -37,9 +37,9 @@ tab_to-requires c =
 
 pub returns : goal.returns
 returns c staging store =
-    let s = c in let a = s.args in
+    let a = c.args in
     let down = c.lines_through-last.ensures in
     tabbed_to _ (machine a.p a.page.now a.line.now staging store)
     (c.tab_to.ensures staging store) c.line_of.ensures
     (below_current a.p.tabs down c.first_tab-below.ensures.0 c.lines_through.ensures)
-    (from_line a.p.tabs down c.first_tab-lowest.ensures.0 s.requires.form.top c.lines_above.ensures)
+    (from_line a.p.tabs down c.first_tab-lowest.ensures.0 c.requires.form.top c.lines_above.ensures)

@@ -20,14 +20,12 @@ opened c =
 pub returns-then-not-is_model : goal.returns-then-not-is_model
 returns-then-not-is_model c =
     let s = (goal.at.returns-then-not-is_model c).Start in
-    let t = c in
     let whole = open_unknown s.args.model s.args.lines s.args.spacing (lent s)
-    (sym t.is_model.ensures ∙ c.if-not-is_model.true) (c.put_shut.ensures.written, c.put_shut.ensures.sound) in record { outcome = whole.0; sound = whole.1 }
+    (sym c.is_model.ensures ∙ c.if-not-is_model.true) (c.put_shut.ensures.written, c.put_shut.ensures.sound) in record { outcome = whole.0; sound = whole.1 }
 
 pub returns : goal.returns
 returns c =
     let s = (goal.at.returns c).Start in
-    let t = c in
     let whole = open_known s.args.model s.args.lines s.args.spacing (lent s) (opened (goal.at.returns c).After-open_model)
-    (sym t.is_model.ensures ∙ c.if-not-is_model.false) c.model_of-known.ensures
+    (sym c.is_model.ensures ∙ c.if-not-is_model.false) c.model_of-known.ensures
     (c.open_model.ensures.outcome, c.open_model.ensures.sound) in record { outcome = whole.0; sound = whole.1 }

@@ -6,9 +6,8 @@ use Rattle.commands.proofs.brackets.at_top.Goals as goal
 
 pub top_row-requires : goal.top_row-requires
 top_row-requires c =
-    let s = c in
-    let f = s.requires in
-    let most = (described_bounded s.args.p.model).longest in
+    let f = c.requires in
+    let most = (described_bounded c.args.p.model).longest in
     (f.top, omega (arith, f.between, f.bottom, f.most))
 
 pub returns-then-p : goal.returns-then-p

@@ -16,11 +16,10 @@ returns-then-not-at_top c m =
 
 pub reformed-requires : goal.reformed-requires
 reformed-requires c =
-    let s = c in s.requires.allowed_form c.if-not-allowed.false
+    c.requires.allowed_form c.if-not-allowed.false
 
 pub returns : goal.returns
 returns c m =
     let a = c.args in
-    let t = c in
     reforms (with_printer a.p m) a.form a.place c.if-not-allowed.false
-    t.at_top.ensures c.if-not-at_top.false c.finished.ensures c.reformed.ensures
+    c.at_top.ensures c.if-not-at_top.false c.finished.ensures c.reformed.ensures

@@ -6,10 +6,9 @@ use Rattle.commands.proofs.brackets.resize.Goals as goal
 
 pub reform-requires : goal.reform-requires
 reform-requires c =
-    let s = c in
-    let p = s.args.p in
+    let p = c.args.p in
     let new = c.resized-new.result in
-    record { sound_form = s.requires; allowed_form = λ t. allowed_bounded p.model s.args.s.semicolons new (sym c.form_allowed.ensures ∙ t) }
+    record { sound_form = c.requires; allowed_form = λ t. allowed_bounded p.model c.args.s.semicolons new (sym c.form_allowed.ensures ∙ t) }
 
 pub returns : goal.returns
 unfolding resize

@@ -7,16 +7,14 @@ use Rattle.commands.proofs.brackets.respace.Goals as goal
 -- the form at another spacing can be put into the state
 pub reform-requires : goal.reform-requires
 reform-requires c =
-    let s = c in
-    let f = s.requires in
-    let most = (described_bounded s.args.p.model).longest in
+    let f = c.requires in
+    let most = (described_bounded c.args.p.model).longest in
     record { sound_form = f; allowed_form = λ _. rw c.respaced.ensures (omega (arith, f.most), f.top, omega (arith, f.between, f.bottom, f.most)) }
 
 pub reform-requires-in-2 : goal.reform-requires-in-2
 reform-requires-in-2 c =
-    let s = c in
-    let f = s.requires in
-    let most = (described_bounded s.args.p.model).longest in
+    let f = c.requires in
+    let most = (described_bounded c.args.p.model).longest in
     record { sound_form = f; allowed_form = λ _. rw c.respaced-in-2.ensures (omega (arith, f.most), f.top, omega (arith, f.between, f.bottom, f.most)) }
 
 pub returns-in-Omitted : goal.returns-in-Omitted

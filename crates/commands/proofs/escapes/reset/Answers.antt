@@ -14,7 +14,7 @@ returns-then-b-ne0 c page staging = simp (c.noted.ensures, ne_eqb _ _ c.if-b-ne0
 
 pub returns : goal.returns
 returns c page staging =
-    let s = c in let a = s.args in
+    let a = c.args in
     was_reset _ a.b a.place (machine a.p page a.line.now staging a.store.now) c.if-b-ne0.false c.quiet.ensures
-    c.after_reset.ensures (c.empty.ensures ∙ line_emptied (edition_of a.p) a.line.now s.requires.0)
-    (c.blank.ensures ∙ store_emptied a.store.now s.requires.1)
+    c.after_reset.ensures (c.empty.ensures ∙ line_emptied (edition_of a.p) a.line.now c.requires.0)
+    (c.blank.ensures ∙ store_emptied a.store.now c.requires.1)

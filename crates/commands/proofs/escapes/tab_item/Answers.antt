@@ -13,8 +13,7 @@ tab-requires c =
 pub returns-then-has_line : goal.returns-then-has_line
 unfolding tab_item tab
 returns-then-has_line c m =
-    let at = c in
-    simp (c.quiet.ensures, c.tab.ensures, c.line.ensures, ← at.has_line.ensures, at.if-has_line.true)
+    simp (c.quiet.ensures, c.tab.ensures, c.line.ensures, ← c.has_line.ensures, c.if-has_line.true)
 
 pub returns-else-has_line : goal.returns-else-has_line
 unfolding tab_item tab

@@ -73,10 +73,9 @@ state_with-p-requires c = state_halves _ (rest_is_state _ (rests c))
 
 pub single-reached-requires : goal.single-reached-requires
 single-reached-requires c =
-    let k = c in
     let h = ready (goal.at.single-reached-requires c).Else-not-feedable in (
-      ap (λ (q : Printer). q.pending) k.state_with-p.ensures,
-      writable (described_proper k.state_with-p.result.model) h.0 h.1,
+      ap (λ (q : Printer). q.pending) c.state_with-p.ensures,
+      writable (described_proper c.state_with-p.result.model) h.0 h.1,
     )
 
 -- the state is the one that the words hold, and they are its words
@@ -85,10 +84,9 @@ words-held c = rest_words _ (rests (goal.at.After-state_with-p c).Else-not-at_re
 
 pub advance-requires : goal.advance-requires
 advance-requires c =
-    let s = (goal.at.advance-requires c).Start in
-    let k = c in (
+    let s = (goal.at.advance-requires c).Start in (
       rest_length _ (rests (goal.at.advance-requires c).Else-not-at_rest),
-      subst (λ (n : ℕ). n < limit) (ap (λ (q : Printer). q.job) k.state_with-p.ensures)
+      subst (λ (n : ℕ). n < limit) (ap (λ (q : Printer). q.job) c.state_with-p.ensures)
           (byte_room (lent s) (byte s) _ _ _ (ran (goal.at.advance-requires c).After-single-reached) c.in-At.is),
     )
 

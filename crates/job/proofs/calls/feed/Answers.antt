@@ -55,8 +55,7 @@ taken c = let l = c.take_bytes.new in given_feeding c.take_bytes.result l.page l
 pub returns-then-not-form_sound : goal.returns-then-not-form_sound
 returns-then-not-form_sound c =
     let s = (goal.at.returns-then-not-form_sound c).Start in
-    let f = c in
-    let no = sym f.form_sound.ensures ∙ c.if-not-form_sound.true in
+    let no = sym c.form_sound.ensures ∙ c.if-not-form_sound.true in
     ap (λ (r : Fed). given-fed r (fed-to s)) c.given.ensures ∙ feed_unsound _ _ _ (fed-to s) (form-unsound _ _ no)
 
 pub rest_sound-requires : goal.rest_sound-requires
@@ -65,9 +64,8 @@ rest_sound-requires c = form-right c
 pub returns-then-not-rest_sound : goal.returns-then-not-rest_sound
 returns-then-not-rest_sound c =
     let s = (goal.at.returns-then-not-rest_sound c).Start in
-    let r = c in
     ap (λ (f : Fed). given-fed f (fed-to s)) c.given-then-not-rest_sound.ensures
-    ∙ feed_unsound _ _ _ (fed-to s) (sym r.rest_sound.ensures ∙ c.if-not-rest_sound.true)
+    ∙ feed_unsound _ _ _ (fed-to s) (sym c.rest_sound.ensures ∙ c.if-not-rest_sound.true)
 
 pub fit-fitting-requires : goal.fit-fitting-requires
 fit-fitting-requires c =

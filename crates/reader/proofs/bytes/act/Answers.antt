@@ -21,12 +21,11 @@ acts c q = act (edition_of c.args.p) c.args.font.now q c.args.b c.args.here (len
 
 -- the state with nothing pending has the line store that it had
 pub reset-requires : goal.reset-requires
-reset-requires c =
-    let s = c in (
-      subst (λ (q : Printer). length s.args.line.now ≡ (edition_of q).columns) (sym c.with_pending.ensures)
-          s.requires.line,
-      s.requires.store,
-    )
+reset-requires c = (
+  subst (λ (q : Printer). length c.args.line.now ≡ (edition_of q).columns) (sym c.with_pending.ensures)
+      c.requires.line,
+  c.requires.store,
+)
 
 pub returns-in-Nothing : goal.returns-in-Nothing
 unfolding act

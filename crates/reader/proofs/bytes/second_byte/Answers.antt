@@ -14,9 +14,8 @@ use Rattle.reader.proofs.bytes.second_byte.Goals as goal
 -- the state with nothing pending has the column and the line store that it had
 pub plot_escape-requires : goal.plot_escape-requires
 plot_escape-requires c =
-    let s = c in
-    subst (λ (q : Printer). (q.head.column ≤ (edition_of q).columns) × (length s.args.line.now ≡ (edition_of q).columns))
-    (sym c.with_pending.ensures) s.requires
+    subst (λ (q : Printer). (q.head.column ≤ (edition_of q).columns) × (length c.args.line.now ≡ (edition_of q).columns))
+    (sym c.with_pending.ensures) c.requires
 
 pub returns-then-p : goal.returns-then-p
 unfolding second_byte

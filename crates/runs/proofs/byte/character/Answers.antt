@@ -34,15 +34,13 @@ overflow_mul-next c = omega (arith, cell-small c)
 
 pub overflow_add-next : goal.overflow_add-next
 overflow_add-next c =
-    let s = c in
-    omega (arith, cell-small c, s.requires.2, (described_bounded s.args.p.model).columns)
+    omega (arith, cell-small c, c.requires.2, (described_bounded c.args.p.model).columns)
 
 pub returns-then-not-enters : goal.returns-then-not-enters
 unfolding reached
 returns-then-not-enters c page staging store font e =
-    let s = c in
     sym (typed_out (pace (goal.at.returns-then-not-enters c).After-cell)
-    (runs_nowhere _ font (s.args.b ∷ []) _) s.requires.0 refl (omega arith) c.enters.ensures c.if-not-enters.true)
+    (runs_nowhere _ font (c.args.b ∷ []) _) c.requires.0 refl (omega arith) c.enters.ensures c.if-not-enters.true)
 
 -- the byte prints, and its cell has room on the line
 character : (c : Else-not-enters) → (prints c.args.b ≡ true)
@@ -51,17 +49,15 @@ character c = entering _ _ _ c.enters.ensures (ap not c.if-not-enters.false)
 
 pub enter-requires : goal.enter-requires
 enter-requires c =
-    let s = c in
     let k = pace (goal.at.enter-requires c).After-cell in
-    roomy (described_proper s.args.p.model) k (stride_most s.args.p.model k) (character (goal.at.enter-requires c).Else-not-enters)
-    c.code.ensures s.requires.3 s.requires.4
+    roomy (described_proper c.args.p.model) k (stride_most c.args.p.model k) (character (goal.at.enter-requires c).Else-not-enters)
+    c.code.ensures c.requires.3 c.requires.4
 
 pub returns : goal.returns
 unfolding reached
 returns c page staging store font e =
-    let s = c in
     sym (runs_dry
     (typed_on (pace (goal.at.returns c).After-cell)
-    (runs_nowhere _ font (s.args.b ∷ []) _) s.requires.0 refl (omega arith) s.requires.1 (character (goal.at.returns c).Else-not-enters) e
+    (runs_nowhere _ font (c.args.b ∷ []) _) c.requires.0 refl (omega arith) c.requires.1 (character (goal.at.returns c).Else-not-enters) e
     c.code.ensures c.enter.ensures)
     (omega arith))

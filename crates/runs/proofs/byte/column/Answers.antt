@@ -17,16 +17,14 @@ use Rattle.runs.proofs.byte.column.Goals.{Else-not-draws}
 
 pub overflow_add-next : goal.overflow_add-next
 overflow_add-next c =
-    let s = c in
-    let b = described_bounded s.args.p.model in
-    omega (arith, b.columns, b.stride s.args.p.style.pitch, c.stride.ensures, s.requires.2)
+    let b = described_bounded c.args.p.model in
+    omega (arith, b.columns, b.stride c.args.p.style.pitch, c.stride.ensures, c.requires.2)
 
 pub returns-then-not-draws : goal.returns-then-not-draws
 unfolding reached
 returns-then-not-draws c font page staging store =
-    let s = c in
-    sym (plotted_out _ s.args.p.style c.stride.ensures c.width-w.ensures
-    (runs_nowhere _ font (s.args.b ∷ []) _) s.requires.0 refl (omega arith) c.draws.ensures c.if-not-draws.true)
+    sym (plotted_out _ c.args.p.style c.stride.ensures c.width-w.ensures
+    (runs_nowhere _ font (c.args.b ∷ []) _) c.requires.0 refl (omega arith) c.draws.ensures c.if-not-draws.true)
 
 -- the byte is a column, and it fits the line
 column : (c : Else-not-draws) → (plots c.args.b ≡ true)
@@ -44,9 +42,8 @@ or_in-requires c = omega (arith, place (goal.at.or_in-requires c).Else-not-draws
 pub returns : goal.returns
 unfolding reached
 returns c font page staging store =
-    let s = c in
     sym (runs_dry
-    (plotted_on _ s.args.p.style c.stride.ensures c.width-w.ensures
-    (runs_nowhere _ font (s.args.b ∷ []) _) s.requires.0 refl (omega arith) s.requires.1 (column (goal.at.returns c).Else-not-draws)
+    (plotted_on _ c.args.p.style c.stride.ensures c.width-w.ensures
+    (runs_nowhere _ font (c.args.b ∷ []) _) c.requires.0 refl (omega arith) c.requires.1 (column (goal.at.returns c).Else-not-draws)
     c.wires.ensures c.or_in.ensures)
     (omega arith))

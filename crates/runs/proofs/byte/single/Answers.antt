@@ -27,13 +27,12 @@ returns-then-p-eq-JOB_LIMIT c page staging =
     (omega (arith, c.if-p-eq-JOB_LIMIT.true)))
 
 pub column-requires : goal.column-requires
-column-requires c =
-    let s = c in (
-      record { pending = s.requires.0; plotting = c.if-p.true },
-      room (goal.at.column-requires c).Else-p-eq-JOB_LIMIT,
-      s.requires.1.column,
-      s.requires.1.line,
-    )
+column-requires c = (
+  record { pending = c.requires.0; plotting = c.if-p.true },
+  room (goal.at.column-requires c).Else-p-eq-JOB_LIMIT,
+  c.requires.1.column,
+  c.requires.1.line,
+)
 
 pub returns-then-p : goal.returns-then-p
 returns-then-p c page staging = let a = c.args in c.column.ensures a.font.now page staging a.store.now
@@ -47,24 +46,22 @@ returns-then-p-2 c page staging =
     (λ b. simp (c.if-p.false, c.if-p-2.true)) refl
 
 pub character-requires : goal.character-requires
-character-requires c =
-    let s = c in (
-      typing (goal.at.character-requires c).Else-p-2,
-      room (goal.at.character-requires c).Else-p-eq-JOB_LIMIT,
-      s.requires.1.column,
-      s.requires.1.line,
-      s.requires.1.store,
-    )
+character-requires c = (
+  typing (goal.at.character-requires c).Else-p-2,
+  room (goal.at.character-requires c).Else-p-eq-JOB_LIMIT,
+  c.requires.1.column,
+  c.requires.1.line,
+  c.requires.1.store,
+)
 
 pub character-requires-else-p-3 : goal.character-requires-else-p-3
-character-requires-else-p-3 c =
-    let s = c in (
-      typing (goal.at.character-requires-else-p-3 c).Else-p-2,
-      room (goal.at.character-requires-else-p-3 c).Else-p-eq-JOB_LIMIT,
-      s.requires.1.column,
-      s.requires.1.line,
-      s.requires.1.resident,
-    )
+character-requires-else-p-3 c = (
+  typing (goal.at.character-requires-else-p-3 c).Else-p-2,
+  room (goal.at.character-requires-else-p-3 c).Else-p-eq-JOB_LIMIT,
+  c.requires.1.column,
+  c.requires.1.line,
+  c.requires.1.resident,
+)
 
 pub returns-then-p-3 : goal.returns-then-p-3
 returns-then-p-3 c page staging =

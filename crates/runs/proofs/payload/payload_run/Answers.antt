@@ -11,11 +11,10 @@ use Rattle.runs.proofs.payload.payload_run.Goals.{In-loop-k, Start}
 
 pub loop-k-init : goal.loop-k-init
 loop-k-init c =
-    let s = c in
     record {
       taken = none_taken _ _;
       kept = refl;
-      runs = λ font page line store. begins (edition_of s.args.p) s.args.place s.args.p font _ page line store _ _ s.requires.0;
+      runs = λ font page line store. begins (edition_of c.args.p) c.args.place c.args.p font _ page line store _ _ c.requires.0;
     }
 
 inside : (c : In-loop-k) → c.loop-k.k < length c.args.piece.now
@@ -26,31 +25,28 @@ room c = room_for_it c.loop-k.invariant.taken c.loop-k-test.true c.args.piece.no
 
 pub returns-then-l : goal.returns-then-l
 returns-then-l c font page line store =
-    let s = c in
     let l = c.loop-k in
     rw c.staged.ensures
-    (sym (staged_out _ s.args.place s.args.p font s.args.piece.now page line store l.l l.job l.staging
+    (sym (staged_out _ c.args.place c.args.p font c.args.piece.now page line store l.l l.job l.staging
     (l.invariant.runs font page line store) (inside (goal.at.returns-then-l c).In-loop-k) c.if-l.true))
 
 pub loop-k-preserved : goal.loop-k-preserved
 loop-k-preserved c =
-    let s = c in
     let l = c.loop-k in
     let i = (goal.at.loop-k-preserved c).In-loop-k in
     record {
       taken = one_more l.invariant.taken i.loop-k-test.true;
       kept = c.stage.auto.staging ∙ l.invariant.kept;
-      runs = λ font page line store. staged_on _ s.args.place s.args.p font s.args.piece.now page line store l.l l.job
+      runs = λ font page line store. staged_on _ c.args.place c.args.p font c.args.piece.now page line store l.l l.job
           l.staging (l.invariant.runs font page line store) (inside i) (room i) c.if-l.false
           c.stage.ensures c.loaded-l.ensures;
     }
 
 pub returns : goal.returns
 returns c font page line store =
-    let s = c in
     let l = c.loop-k in
     rw c.staged-2.ensures
-    (sym (runs_over (l.invariant.runs font page line store) s.args.p.job l.invariant.taken.counted (omega (arith, c.loop-k-test.false, s.requires.1))))
+    (sym (runs_over (l.invariant.runs font page line store) c.args.p.job l.invariant.taken.counted (omega (arith, c.loop-k-test.false, c.requires.1))))
 
 pub shape_of-staging-then-l : goal.shape_of-staging-then-l
 shape_of-staging-then-l c = c.loop-k.invariant.kept

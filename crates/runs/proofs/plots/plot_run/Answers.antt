@@ -16,11 +16,10 @@ use Rattle.runs.proofs.plots.plot_run.Goals.{Else-not-draws, In-loop-k, Start}
 
 pub loop-k-init : goal.loop-k-init
 loop-k-init c =
-    let s = c in
     record {
-      plotting = s.requires.0;
+      plotting = c.requires.0;
       style = refl;
-      column = s.requires.1;
+      column = c.requires.1;
       taken = none_taken _ _;
       kept = refl;
       runs = λ font page staging store. runs_nowhere _ font _ _;
@@ -42,8 +41,7 @@ returns-then-not-draws c font page staging store =
 pub returns : goal.returns
 returns c font page staging store =
     let l = c.loop-k in
-    let s = c in
-    sym (runs_over (l.invariant.runs font page staging store) s.args.p.job l.invariant.taken.counted (omega (arith, c.loop-k-test.false, s.requires.3)))
+    sym (runs_over (l.invariant.runs font page staging store) c.args.p.job l.invariant.taken.counted (omega (arith, c.loop-k-test.false, c.requires.3)))
 
 -- the byte is a column, and it fits the line
 column : (c : Else-not-draws) → (plots (get_or c.args.piece.now c.loop-k.k 0) ≡ true)
@@ -68,7 +66,6 @@ or_in-requires c = omega (arith, (place (goal.at.or_in-requires c).Else-not-draw
 
 pub loop-k-preserved : goal.loop-k-preserved
 loop-k-preserved c =
-    let s = c in
     let l = c.loop-k in
     let i = (goal.at.loop-k-preserved c).In-loop-k in
     record {
@@ -77,7 +74,7 @@ loop-k-preserved c =
       column = (place (goal.at.loop-k-preserved c).Else-not-draws).1;
       taken = one_more l.invariant.taken i.loop-k-test.true;
       kept = c.or_in.auto.line ∙ l.invariant.kept;
-      runs = λ font page staging store. plotted_on _ s.args.p.style c.stride-each.ensures c.width-w.ensures
+      runs = λ font page staging store. plotted_on _ c.args.p.style c.stride-each.ensures c.width-w.ensures
           (l.invariant.runs font page staging store) l.invariant.plotting l.invariant.style (inside i) (room i)
           (column (goal.at.loop-k-preserved c).Else-not-draws)
           c.wires.ensures c.or_in.ensures;

@@ -15,11 +15,10 @@ use Rattle.runs.proofs.text.characters.Goals.{After-cell, Else-not-enters, In-lo
 
 pub loop-k-init : goal.loop-k-init
 loop-k-init c =
-    let s = c in
     record {
-      typing = s.requires.0;
+      typing = c.requires.0;
       style = refl;
-      column = s.requires.1;
+      column = c.requires.1;
       taken = none_taken _ _;
       kept = refl;
       runs = λ page staging store font e. runs_nowhere _ font _ _;
@@ -62,8 +61,7 @@ returns-then-not-enters c page staging store font e =
 pub returns : goal.returns
 returns c page staging store font e =
     let l = c.loop-k in
-    let s = c in
-    sym (runs_over (l.invariant.runs page staging store font e) s.args.p.job l.invariant.taken.counted (omega (arith, c.loop-k-test.false, s.requires.4)))
+    sym (runs_over (l.invariant.runs page staging store font e) c.args.p.job l.invariant.taken.counted (omega (arith, c.loop-k-test.false, c.requires.4)))
 
 -- the byte prints, and its cell has room on the line
 character : (c : Else-not-enters) → (prints (get_or c.args.piece.now c.loop-k.k 0) ≡ true)
@@ -72,21 +70,19 @@ character c = entering _ _ _ c.enters.ensures (ap not c.if-not-enters.false)
 
 pub enter-requires : goal.enter-requires
 enter-requires c =
-    let s = c in
     let k = (goal.at.enter-requires c).After-cell in
-    roomy (described_proper s.args.p.model) (pace k) (stride_most s.args.p.model (pace k)) (character (goal.at.enter-requires c).Else-not-enters)
-    c.code.ensures (c.loop-k.invariant.kept ∙ s.requires.2) s.requires.3
+    roomy (described_proper c.args.p.model) (pace k) (stride_most c.args.p.model (pace k)) (character (goal.at.enter-requires c).Else-not-enters)
+    c.code.ensures (c.loop-k.invariant.kept ∙ c.requires.2) c.requires.3
 
 pub loop-k-preserved : goal.loop-k-preserved
 loop-k-preserved c =
-    let s = c in
     let l = c.loop-k in
     let i = (goal.at.loop-k-preserved c).In-loop-k in
     let b = character (goal.at.loop-k-preserved c).Else-not-enters in
     record {
       typing = types_still _ l.invariant.typing;
       style = l.invariant.style;
-      column = stays_on (described_proper s.args.p.model) (pace (goal.at.loop-k-preserved c).After-cell) b.1;
+      column = stays_on (described_proper c.args.p.model) (pace (goal.at.loop-k-preserved c).After-cell) b.1;
       taken = one_more l.invariant.taken i.loop-k-test.true;
       kept = c.enter.auto.line ∙ l.invariant.kept;
       runs = λ page staging store font e. typed_on (pace (goal.at.loop-k-preserved c).After-cell)

@@ -15,8 +15,7 @@ rows_are c = ap (λ (rows : ℕ). c.args.form.bottom.0 * rows) c.rows_per_line.e
 
 pub overflow_mul-rows : goal.overflow_mul-rows
 overflow_mul-rows c =
-    let s = c in
-    omega (arith, rows_are (goal.at.overflow_mul-rows c).After-rows_per_line, lines-rows-most s.args.form.bottom.0 s.args.form.spacing s.requires)
+    omega (arith, rows_are (goal.at.overflow_mul-rows c).After-rows_per_line, lines-rows-most c.args.form.bottom.0 c.args.form.spacing c.requires)
 
 pub returns-then-rows-ge9 : goal.returns-then-rows-ge9
 unfolding fits

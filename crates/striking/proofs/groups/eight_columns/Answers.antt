@@ -34,8 +34,7 @@ in-pitch s told e = e ∙ ap (struck-in s) (sym told)
 begin : (c : After-page_byte-at) (pitch : Pitch) → c.args.pitch ≡ pitch → let a = c.args in
     Placed Lp2 a.page.now a.row pitch a.c c.page_byte-at.result
 begin c pitch told =
-    let s = c in
-    placed Lp2 _ s.args.line.now _ _ pitch _ _ _ s.requires.room s.requires.c_value.0 s.requires.c_value.1 told c.grid.ensures c.page_byte-at.ensures
+    placed Lp2 _ c.args.line.now _ _ pitch _ _ _ c.requires.room c.requires.c_value.0 c.requires.c_value.1 told c.grid.ensures c.page_byte-at.ensures
 
 pub returns-then-four-eq0 : goal.returns-then-four-eq0
 returns-then-four-eq0 c =
@@ -45,8 +44,7 @@ returns-then-four-eq0 c =
 
 pub grid-requires : goal.grid-requires
 grid-requires c =
-    let s = c in
-    omega (arith, s.requires.c_value.1, (described_proper Lp2).wide s.args.pitch, (described_bounded Lp2).columns)
+    omega (arith, c.requires.c_value.1, (described_proper Lp2).wide c.args.pitch, (described_bounded Lp2).columns)
 
 -- the place is on the row, and the row's bytes are on the page
 pub page_byte-at-requires : goal.page_byte-at-requires

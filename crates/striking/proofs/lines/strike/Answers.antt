@@ -5,5 +5,4 @@ use Rattle.striking.proofs.lines.strike.Goals as goal
 
 pub returns : goal.returns
 returns c =
-    let start = c in
-    record { page_after = c.onto.ensures; line_after = c.empty.ensures ∙ line_emptied _ start.args.line.now start.requires.full }
+    record { page_after = c.onto.ensures; line_after = c.empty.ensures ∙ line_emptied _ c.args.line.now c.requires.full }

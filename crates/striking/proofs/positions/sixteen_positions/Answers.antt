@@ -23,8 +23,7 @@ small c k = omega (arith, c.shared_slice_known-1.given k)
 -- the positions begin at the byte that the code names
 begin : (c : After-page_byte-at) → let a = c.args in Placed Dg6215 a.page.now a.row a.pitch a.c c.page_byte-at.result
 begin c =
-    let s = c in
-    placed Dg6215 _ s.args.line.now _ _ _ _ _ _ s.requires.room s.requires.c_value.0 s.requires.c_value.1 refl c.grid.ensures c.page_byte-at.ensures
+    placed Dg6215 _ c.args.line.now _ _ _ _ _ _ c.requires.room c.requires.c_value.0 c.requires.c_value.1 refl c.grid.ensures c.page_byte-at.ensures
 
 below : (s : Start) → s.args.c < 6800
 unfolding dg6215
