@@ -1,13 +1,17 @@
 // The lines in which a program tells of a job. A line that standard output doesn't take is told of on standard error.
 #![tactic(auto)]
 
+ghost use Rattle.std.specs.Prelude.{◌↔◌, IsOk, IsTrue};
+
 use printer::Fault;
 use protocol::numbers::note_number;
 use std::io;
 use std::io::ErrorKind;
 
 // Whether standard output took what was written. Where it didn't, says so, unless it is a pipe that nobody reads any more.
-pub fn took(rt: &impl Eprint, written: io::Result<()>) -> bool {
+pub fn took(rt: &impl Eprint, written: io::Result<()>) -> bool
+    ensures { IsTrue result ↔ IsOk written }
+{
     match written {
         Ok(()) => true,
         Err(error) => {
