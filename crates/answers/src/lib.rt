@@ -3,6 +3,7 @@
 
 ghost use Rattle.std.specs.Prelude.{◌≡◌, ◌+◌, ◌≤◌};
 ghost use Rattle.sheet.specs.Edition.{described};
+ghost use Rattle.sheet.specs.Form.{TopFits};
 ghost use Rattle.printer.specs.declared.Printer.{Printer};
 ghost use Rattle.printer.specs.Given.{machine};
 ghost use Rattle.printer.specs.Machine.{new_printer, shut};
@@ -10,11 +11,12 @@ ghost use Rattle.protocol.specs.Calls.{fit, opening};
 ghost use Rattle.protocol.specs.Given.{answer_to, is_quiet, fed};
 
 use printer::{Event, Head, Pending, Printer, STORE_BYTES, Stepped, Style, TabSet};
-use protocol::{Answer, Fed, Fit, Lent, Opened};
+use protocol::{Answer, Fed, Lent, Opened};
 use sheet::sizes::{line_numbers, lines_allowed, new_form, page_bytes, spacing_allowed, top_row};
 use sheet::{Form, Model, Pitch};
 
 // The first of what is lent that has not its exact length.
+#[tactic(auto, unfolding(protocol::specs::Calls::fit))]
 pub fn fit(
     model: Model,
     form: Form,
@@ -23,30 +25,31 @@ pub fn fit(
     staging: &[u8],
     store: &[u8],
     font: &[u8],
-) -> Fit
+) -> Result<(), Lent>
     requires { form.lines ≤ 112 }
     ensures { (p : Printer) → result
         ≡ fit (described model) form font.now (machine p page.now line.now staging.now store.now) }
 {
     if page.len() != page_bytes(model, form) {
-        return Fit::Wrong(Lent::Page);
+        return Err(Lent::Page);
     }
     if line.len() != line_numbers(model) {
-        return Fit::Wrong(Lent::LineStore);
+        return Err(Lent::LineStore);
     }
     if staging.len() != STORE_BYTES {
-        return Fit::Wrong(Lent::Staging);
+        return Err(Lent::Staging);
     }
     if store.len() != STORE_BYTES {
-        return Fit::Wrong(Lent::DownloadStore);
+        return Err(Lent::DownloadStore);
     }
     if font.len() != STORE_BYTES {
-        return Fit::Wrong(Lent::Font);
+        return Err(Lent::Font);
     }
-    Fit::Right
+    Ok(())
 }
 
 // What opening answers to what is lent, before it writes anything.
+#[tactic(auto, using(sheet::proofs::Editions::described_bounded), unfolding(protocol::specs::Calls::opening, protocol::specs::Calls::open_fitted, sheet::specs::Form::lines_allowed))]
 pub fn admit(
     model: Model,
     lines: usize,
@@ -68,16 +71,16 @@ pub fn admit(
         return Answer::WrongSpacing;
     }
     let form = new_form(lines, spacing);
-    let fitting = fit(model, form, page, line, staging, store, font);
-    match fitting {
-        Fit::Wrong(lent) => Answer::Misfit(lent),
-        Fit::Right => Answer::Done,
+    match fit(model, form, page, line, staging, store, font) {
+        Err(lent) => Answer::Misfit(lent),
+        Ok(()) => Answer::Done,
     }
 }
 
 // The state at the start of a job.
+#[tactic(auto, unfolding(printer::specs::Tabs::no_tabs))]
 pub fn new_printer(model: Model, form: Form) -> Printer
-    requires { (1 ≤ form.top.0) × (form.top.0 ≤ 128) }
+    requires { TopFits form }
     ensures { result ≡ new_printer model form }
 {
     let head = Head {
@@ -119,11 +122,7 @@ pub fn unopened(model: Model, answer: Answer) -> Opened
 pub fn is_quiet(event: Event) -> bool
     ensures { result ≡ is_quiet event }
 {
-    match event {
-        Event::Quiet => true,
-        Event::Finished => false,
-        Event::Noted(_, _) => false,
-    }
+    matches!(event, Event::Quiet)
 }
 
 // What a feeding gives back.
@@ -156,11 +155,8 @@ pub fn counted(f: Fed, before: usize) -> Fed
     requires { before + f.taken ≤ 18446744073709551615 }
     ensures { result ≡ fed f.printer f.answer (before + f.taken) }
 {
-    let printer = f.printer;
-    let answer = f.answer;
     Fed {
-        printer,
-        answer,
         taken: before + f.taken,
+        ..f
     }
 }

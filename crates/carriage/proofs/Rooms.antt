@@ -1,42 +1,45 @@
--- What a line that can be struck has: rows on the page, and a row and a line within bounds; and how many positions a cell has.
-use Prim.Native.Nat.{ℕ, ◌+◌, ◌*◌, ◌≤◌}
+-- What a line that can be struck has: rows on the page, and a row and a line within bounds; and what columns are bounded by.
+use Prim.Native.Nat.{ℕ, ◌+◌, ◌≤◌}
 use mathlib.Core.List.{List}
-use mathlib.Core.Path.{◌≡◌}
 use native.Mathlib.Nat.{mul-le-mul_right}
 use native.Mathlib.Omega.{arith}
 use borrow.Author.Tests.{le-leb}
-use Rattle.sheet.specs.declared.Line.{Line}
-use Rattle.sheet.specs.Edition.{Edition}
+use Rattle.sheet.specs.declared.Model.{Model}
+use Rattle.sheet.specs.declared.Pitch.{Pitch}
+use Rattle.sheet.specs.Edition.{described}
+use Rattle.sheet.proofs.Editions.{described_bounded, described_proper}
 use Rattle.sheet.specs.Form.{fits, form_rows, line_of, page_bytes}
 use Rattle.sheet.proofs.Units.{fits-form, line-inside, lines-rows-most}
 use Rattle.striking.specs.Room.{Room}
 use Rattle.printer.specs.declared.Printer.{Printer}
 use Rattle.printer.specs.Room.{Strikable}
+use Rattle.state.proofs.Forms.{bottom_bounded}
 
-module _ {e : Edition} {p : Printer} {page line : List ℕ} (h : Strikable e p page line) where
+module _ (w : Model) (p : Printer) (page line : List ℕ) (h : Strikable (described w) p page line) where
   -- the nine rows are on the page
-  pub rows_on_page : Room e page line p.head.row
+  pub rows_on_page : Room (described w) page line p.head.row
   unfolding page_bytes
   rows_on_page =
       let on : p.head.row.0 + 9 ≤ form_rows p.form = fits-form p.form p.head.row.0 h.form.bottom h.row in
-      record { rows = omega (arith, mul-le-mul_right e.bytes on, h.page); full = h.line }
+      record { rows = omega (arith, mul-le-mul_right (described w).bytes on, h.page); full = h.line }
 
-  module _ (most : e.longest ≤ 112) where
-    pub row_bound : p.head.row.0 ≤ 1344
-    row_bound = omega (arith, h.row, lines-rows-most p.form.bottom.0 p.form.spacing (omega (arith, h.form.bottom, h.form.most)))
+  pub row_bound : p.head.row.0 ≤ 1344
+  row_bound = omega (arith, h.row, lines-rows-most p.form.bottom.0 p.form.spacing (bottom_bounded w p.form h.form))
 
-    pub line_bound : {n : Line} → n ≡ line_of p.form p.head.row → n.0 ≤ 112
-    unfolding fits
-    line_bound q =
-        rw q (omega (arith, line-inside p.form p.head.row (le-leb _ _ h.row), h.form.bottom, h.form.most))
+  pub line_bound : (line_of p.form p.head.row).0 ≤ 112
+  unfolding fits
+  line_bound = omega (arith, line-inside p.form p.head.row (le-leb _ _ h.row), bottom_bounded w p.form h.form)
 
-    -- the margins are lines that the state has a place for
-    pub bottom_bound : p.form.bottom.0 ≤ 112
-    bottom_bound = omega (arith, h.form.bottom, h.form.most)
+-- what a model's columns are bounded by
+module _ (w : Model) (pitch : Pitch) where
+  pub columns_most : (described w).columns ≤ 6800
+  columns_most = (described_bounded w).columns
 
-    pub top_bound : (1 ≤ p.form.top.0) × (p.form.top.0 ≤ 128)
-    top_bound = (h.form.top, omega (arith, h.form.between, bottom_bound))
+  pub width_most : (described w).width pitch ≤ (described w).columns
+  width_most = (described_proper w).wide pitch
 
--- a cell has a hundred positions at most
-pub cell_positions : (stride cells : ℕ) → stride ≤ 5 → cells ≤ 20 → stride * cells ≤ 100
-cell_positions stride cells s c = omega (arith, mul-le-mul_right cells s)
+  pub stride_some : 1 ≤ (described w).stride pitch
+  stride_some = (described_proper w).takes pitch
+
+  pub stride_most : (described w).stride pitch ≤ 5
+  stride_most = (described_bounded w).stride pitch

@@ -18,7 +18,7 @@ fn draw(line: &mut [u16], store: &[u8], font: &[u8], style: Style, b: u8, at: us
     ensures { line.new ≡ enter (cond style.downloaded store.now font.now) b
         style.elongated style.underscore at stride line.old }
 {
-    let n = b as usize;
+    let n = usize::from(b);
     let wide = style.elongated;
     let underscored = style.underscore;
     if style.downloaded {
@@ -29,6 +29,7 @@ fn draw(line: &mut [u16], store: &[u8], font: &[u8], style: Style, b: u8, at: us
 }
 
 // A character.
+#[tactic(auto, using(crate::proofs::Rooms::columns_most, crate::proofs::Rooms::width_most, crate::proofs::Rooms::stride_some, crate::proofs::Rooms::stride_most, glyph::proofs::Cells::cell_bounds), unfolding(printer::specs::Printing::print, printer::specs::Printing::entered))]
 pub fn print(p: Printer, b: u8, place: u32, line: &mut [u16], store: &[u8], font: &[u8]) -> Stepped
     requires { Writable (edition_of p) p line.old store.now font.now × (b < 128) }
     ensures { (page staging : List ℕ)

@@ -8,15 +8,16 @@ ghost use Rattle.printer.specs.Steps.{finished, quiet};
 ghost use Rattle.printer.specs.Tabs.{line_tabs};
 ghost use Rattle.printer.specs.Terminators.{carriage_return, first_tab, form_feed, newline, strike, tab_to, vertical_tab};
 
-use printer::{NextTab, Printer, Stepped, TabSet};
-use sheet::Row;
+use printer::{Printer, Stepped, TabSet};
 use sheet::counts::{line, lines_above, lines_through};
 use sheet::sizes::{first_row, fits, line_of, lower, rows_per_line, top_row};
+use sheet::{Line, Row};
 use state::parts::{finished, fresh, quiet};
 use state::tabs::tabbed;
 use striking::strike;
 
 // Strikes the line in progress at the current row; the head goes to a fresh line at row `next`.
+#[tactic(auto, using(crate::proofs::Rooms::rows_on_page), unfolding(printer::specs::Terminators::strike))]
 fn line_done(p: Printer, next: Row, page: &mut [u8], line: &mut [u16]) -> Stepped
     requires { Strikable (edition_of p) p page.old line.old }
     ensures { (staging store : List ℕ)
@@ -44,6 +45,7 @@ fn form_done(p: Printer, next: Row, page: &mut [u8], line: &mut [u16]) -> Steppe
 }
 
 // The rows that a newline moves down.
+#[tactic(auto, using(sheet::proofs::Units::twelve_rows))]
 fn advance(p: Printer) -> usize
     ensures { (result ≡ cond p.head.plotted 7 (rows_per_line p.form.spacing)) × (result ≤ 12) }
 {
@@ -56,6 +58,7 @@ fn advance(p: Printer) -> usize
 }
 
 // 0A.
+#[tactic(auto, using(crate::proofs::Rooms::row_bound, state::proofs::Forms::bottom_bounded), unfolding(printer::specs::Terminators::newline))]
 pub fn newline(p: Printer, page: &mut [u8], line: &mut [u16]) -> Stepped
     requires { Strikable (edition_of p) p page.old line.old }
     ensures { (staging store : List ℕ)
@@ -73,6 +76,7 @@ pub fn newline(p: Printer, page: &mut [u8], line: &mut [u16]) -> Stepped
 }
 
 // 0C.
+#[tactic(auto, using(state::proofs::Forms::top_bounded), unfolding(printer::specs::Terminators::form_feed))]
 pub fn form_feed(p: Printer, page: &mut [u8], line: &mut [u16]) -> Stepped
     requires { Strikable (edition_of p) p page.old line.old }
     ensures { (staging store : List ℕ)
@@ -84,6 +88,7 @@ pub fn form_feed(p: Printer, page: &mut [u8], line: &mut [u16]) -> Stepped
 }
 
 // 0D.
+#[tactic(auto, unfolding(printer::specs::Terminators::carriage_return))]
 pub fn carriage_return(p: Printer, page: &mut [u8], line: &mut [u16]) -> Stepped
     requires { Strikable (edition_of p) p page.old line.old }
     ensures { (staging store : List ℕ)
@@ -95,22 +100,28 @@ pub fn carriage_return(p: Printer, page: &mut [u8], line: &mut [u16]) -> Stepped
 }
 
 // The first tabbed line of those below the first `above`, down to line `last`.
-fn first_tab(tabs: TabSet, above: usize, last: usize) -> NextTab
+#[tactic(auto, using(crate::proofs::TabsBelow::found, crate::proofs::TabsBelow::passed_by, crate::proofs::TabsBelow::none_below))]
+fn first_tab(tabs: TabSet, above: usize, last: usize) -> Option<Line>
     requires { (above ≤ 2000) × (last ≤ 128) }
     ensures { (result ≡ first_tab (line (above + 1)) (drop above (take last (line_tabs tabs)))) × Kept result }
 {
-    let mut i = above;
-    while i < last {
+    for i in above..last {
         if tabbed(tabs, i) {
-            return NextTab::Tabbed(line(i + 1));
+            return Some(line(i + 1));
         }
-        i += 1;
     }
-    NextTab::Untabbed
+    None
 }
 
 // To the tabbed line below, to the lowest-numbered on the next form, or nowhere.
-fn tab_to(p: Printer, below: NextTab, lowest: NextTab, page: &mut [u8], line: &mut [u16]) -> Stepped
+#[tactic(auto, unfolding(printer::specs::Terminators::tab_to))]
+fn tab_to(
+    p: Printer,
+    below: Option<Line>,
+    lowest: Option<Line>,
+    page: &mut [u8],
+    line: &mut [u16],
+) -> Stepped
     requires { Strikable (edition_of p) p page.old line.old × Kept below × Kept lowest }
     ensures { (staging store : List ℕ)
         → given result page.new line.new staging store
@@ -118,15 +129,16 @@ fn tab_to(p: Printer, below: NextTab, lowest: NextTab, page: &mut [u8], line: &m
 {
     let form = p.form;
     match below {
-        NextTab::Tabbed(n) => line_done(p, first_row(form, n), page, line),
-        NextTab::Untabbed => match lowest {
-            NextTab::Tabbed(n) => form_done(p, first_row(form, n), page, line),
-            NextTab::Untabbed => carriage_return(p, page, line),
+        Some(n) => line_done(p, first_row(form, n), page, line),
+        None => match lowest {
+            Some(n) => form_done(p, first_row(form, n), page, line),
+            None => carriage_return(p, page, line),
         },
     }
 }
 
 // 0B.
+#[tactic(auto, using(state::proofs::Forms::bottom_bounded, crate::proofs::Rooms::line_bound), unfolding(printer::specs::Terminators::vertical_tab))]
 pub fn vertical_tab(p: Printer, page: &mut [u8], line: &mut [u16]) -> Stepped
     requires { Strikable (edition_of p) p page.old line.old }
     ensures { (staging store : List ℕ)

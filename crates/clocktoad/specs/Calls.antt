@@ -6,6 +6,7 @@ use Rattle.sheet.specs.declared.Model.{Model}
 use Rattle.sheet.specs.declared.Model.TheVariants.{Lp2}
 use Rattle.sheet.specs.Edition.{Edition, described}
 use Rattle.printer.specs.declared.Closing.{Closing}
+use Rattle.printer.specs.declared.Memory.{Memory}
 use Rattle.printer.specs.declared.Printer.{Printer}
 use Rattle.printer.specs.Closing.{closing}
 use Rattle.printer.specs.Given.{machine}
@@ -26,6 +27,11 @@ unfoldable pub model_call : Model → ℕ → ℕ → List ℕ → List ℕ → 
 model_call w lines spacing font state page line staging store =
     let o : Opening = opening w lines spacing font (machine (shut w) page line staging store) in
     cond (eqb (length state) state_size) (opening_words o) (called (refused_or 21 o.answer) state page line staging store [])
+
+-- the same with what a caller lends
+abbrev pub model_call_in : Model → ℕ → ℕ → List ℕ → Memory → Called
+model_call_in w lines spacing state m =
+    model_call w lines spacing m.font.now state m.page.now m.line.now m.staging.now m.store.now
 
 -- words that are as many as a state's become the LP2's shut state
 unfoldable pub shut_words : List ℕ → List ℕ

@@ -1,12 +1,14 @@
 // The calls of another language. Each takes whatever it is handed, and refuses by number what doesn't fit.
 ghost use Rattle.std.specs.Prelude.{◌≡◌, true, [], length, ◌≤◌};
+ghost use Rattle.printer.specs.Given.{LentOn};
 ghost use Rattle.words.specs.Words.{is_state, state_size};
-ghost use Rattle.feeding.specs.Feeding.{called, feed_call};
-ghost use Rattle.clocktoad.specs.Calls.{close_call, model_call, open_call, shut_words};
+ghost use Rattle.feeding.specs.Feeding.{called, called_in, feed_call};
+ghost use Rattle.clocktoad.specs.Calls.{close_call, model_call_in, open_call, shut_words};
 
 use answers::admit;
 use feeding::{REPORT_WORDS, feed_words, refused_or, tell};
 use job::calls::{close, open};
+use printer::Memory;
 use protocol::numbers::{answer_number, close_number, close_place, refusal};
 use sheet::Model;
 use words::{STATE_WORDS, is_model, is_state, model_of, put_new, state_of};
@@ -17,24 +19,27 @@ fn open_model(
     lines: usize,
     spacing: usize,
     state: &mut [u64],
-    page: &mut [u8],
-    line: &mut [u16],
-    staging: &mut [u8],
-    store: &mut [u8],
-    font: &[u8],
+    memory: &mut Memory<'_>,
 ) -> u64
-    ensures outcome { called result state.new page.new line.new staging.new store.new []
-        ≡ model_call model lines spacing font.now state.old page.old
-        line.old staging.old store.old }
+    ensures outcome { called_in result state.new memory.new [] ≡ model_call_in model lines spacing state.old memory.old }
     ensures sound { length state.old ≡ state_size → is_state state.new ≡ true }
+    ensures lent { LentOn memory.old memory.new }
 {
     if state.len() != STATE_WORDS {
-        return refused_or(
-            21,
-            admit(model, lines, spacing, page, line, staging, store, font),
+        let font = memory.font;
+        let answer = admit(
+            model,
+            lines,
+            spacing,
+            &mut *memory.page,
+            &mut *memory.line,
+            &mut *memory.staging,
+            &mut *memory.store,
+            font,
         );
+        return refused_or(21, answer);
     }
-    let opened = open(model, lines, spacing, page, line, staging, store, font);
+    let opened = open(model, lines, spacing, memory);
     let answer = opened.answer;
     if refusal(answer) {
         put_new(state, model, 0, 0);
@@ -45,6 +50,7 @@ fn open_model(
 }
 
 // Makes the shut state of an LP2 of words that are as many as a state's.
+#[tactic(auto, unfolding(crate::specs::Calls::shut_words))]
 fn put_shut(state: &mut [u64])
     ensures written { state.new ≡ shut_words state.old }
     ensures sound { length state.old ≡ state_size → is_state state.new ≡ true }
@@ -56,6 +62,7 @@ fn put_shut(state: &mut [u64])
 
 // Opens a job.
 #[unsafe(no_mangle)]
+#[tactic(auto, unfolding(crate::specs::Calls::open_call))]
 pub extern "C" fn clocktoad_open(
     model: u64,
     lines: usize,
@@ -76,10 +83,14 @@ pub extern "C" fn clocktoad_open(
         put_shut(state);
         return 23;
     }
-    let known = model_of(model);
-    open_model(
-        known, lines, spacing, state, page, line, staging, store, font,
-    )
+    let mut memory = Memory {
+        page,
+        line,
+        staging,
+        store,
+        font,
+    };
+    open_model(model_of(model), lines, spacing, state, &mut memory)
 }
 
 // Feeds a piece of the job.
@@ -99,11 +110,19 @@ pub extern "C" fn clocktoad_feed(
         staging.old store.old report.old }
     ensures sound { result ≤ 3 → is_state state.new ≡ true }
 {
-    feed_words(state, page, line, staging, store, font, piece, report)
+    let mut memory = Memory {
+        page,
+        line,
+        staging,
+        store,
+        font,
+    };
+    feed_words(state, &mut memory, piece, report)
 }
 
 // Closes a job.
 #[unsafe(no_mangle)]
+#[tactic(auto, using(words::proofs::Ranges::state_halves), unfolding(crate::specs::Calls::close_call, crate::specs::Calls::closing_words, crate::specs::Calls::closing_report))]
 pub extern "C" fn clocktoad_close(state: &[u64], report: &mut [u64]) -> u64
     ensures { record { number = result; report = report.new } ≡ close_call state.now report.old }
 {

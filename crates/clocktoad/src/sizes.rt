@@ -29,6 +29,7 @@ pub extern "C" fn clocktoad_report_words() -> usize
 
 // The bytes of a page, 0 where there is no such model or form.
 #[unsafe(no_mangle)]
+#[tactic(auto, unfolding(crate::specs::Calls::of_model))]
 pub extern "C" fn clocktoad_page_bytes(model: u64, lines: usize, spacing: usize) -> usize
     ensures { result ≡ of_model model (λ (e : Edition). page_size e lines spacing) }
 {
@@ -41,6 +42,7 @@ pub extern "C" fn clocktoad_page_bytes(model: u64, lines: usize, spacing: usize)
 
 // The bytes of the page that the next feeding takes, 0 where there is no sound state.
 #[unsafe(no_mangle)]
+#[tactic(auto, using(words::proofs::Ranges::state_halves), unfolding(crate::specs::Calls::due_call))]
 pub extern "C" fn clocktoad_page_due(state: &[u64]) -> usize
     ensures { result ≡ due_call state.now }
 {
@@ -52,6 +54,7 @@ pub extern "C" fn clocktoad_page_due(state: &[u64]) -> usize
 
 // The numbers of a line store, 0 where there is no such model.
 #[unsafe(no_mangle)]
+#[tactic(auto, unfolding(crate::specs::Calls::of_model))]
 pub extern "C" fn clocktoad_line_numbers(model: u64) -> usize
     ensures { result ≡ of_model model (λ (e : Edition). e.columns) }
 {

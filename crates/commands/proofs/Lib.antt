@@ -1,5 +1,2 @@
--- What downloads, form settings and the reset rest on.
-pub mod Copying
-pub mod Downloaded
+-- What form settings rest on.
 pub mod Reforming
-pub mod Resetting

@@ -1,6 +1,6 @@
 // The commands that ESC [ begins: print styles, the form's length and margins, its spacing. Document 02, #105.
 ghost use Rattle.std.specs.Prelude.{◌≡◌, ◌≤◌, true, ◌&&◌, nat_lt};
-ghost use Rattle.sheet.specs.Form.{lines_allowed, margins_allowed};
+ghost use Rattle.sheet.specs.Form.{FormFits, lines_allowed, margins_allowed};
 ghost use Rattle.printer.specs.Brackets.{at_top, bracket, continues, digit_read, only, or_kept, reform, resize, resized, respace, respaced, restyled};
 ghost use Rattle.printer.specs.Brackets.{semicolon_read, setting_byte, style, with_digit};
 ghost use Rattle.printer.specs.Facts.{SoundForm};
@@ -8,7 +8,7 @@ ghost use Rattle.printer.specs.Given.{bare, over};
 ghost use Rattle.printer.specs.Machine.{Machine, edition_of, with_printer};
 
 use crate::escapes::repitched;
-use printer::{Fault, Printer, Setting, Settings, Stepped};
+use printer::{Fault, Printer, Settings, Stepped};
 use sheet::counts::{line, lines_through, rows_above};
 use sheet::sizes::{lines_allowed, margins_allowed, top_row};
 use sheet::{Form, Pitch};
@@ -18,48 +18,43 @@ use state::parts::{finished, noted, reformed, set_elongated, set_pitch};
 const MOST_KEPT: u32 = 9999;
 
 // A number with one digit more.
-fn with_digit(setting: Setting, d: u8) -> Setting
+#[tactic(auto, unfolding(printer::specs::Brackets::with_digit))]
+fn with_digit(setting: Option<u16>, d: u8) -> Option<u16>
     ensures { result ≡ with_digit d setting }
 {
     match setting {
-        Setting::Omitted => Setting::Given(d as u16),
-        Setting::Given(n) => {
-            let more = 10 * (n as u32) + (d as u32);
+        None => Some(u16::from(d)),
+        Some(n) => {
+            let more = 10 * u32::from(n) + u32::from(d);
             if more < MOST_KEPT {
-                Setting::Given(more as u16)
+                Some(more as u16)
             } else {
-                Setting::Given(MOST_KEPT as u16)
+                Some(MOST_KEPT as u16)
             }
         }
     }
 }
 
 // A digit, which belongs to the number that the semicolons before it tell.
+#[tactic(auto, unfolding(printer::specs::Brackets::digit_read))]
 fn digit_read(s: Settings, d: u8) -> Settings
     ensures { result ≡ digit_read d s }
 {
     let first = s.first;
     let second = s.second;
     let third = s.third;
-    let semicolons = s.semicolons;
-    match semicolons {
+    match s.semicolons {
         0 => Settings {
             first: with_digit(first, d),
-            second,
-            third,
-            semicolons: 0,
+            ..s
         },
         1 => Settings {
-            first,
             second: with_digit(second, d),
-            third,
-            semicolons: 1,
+            ..s
         },
         2 => Settings {
-            first,
-            second,
             third: with_digit(third, d),
-            semicolons: 2,
+            ..s
         },
         _ => s,
     }
@@ -69,16 +64,16 @@ fn digit_read(s: Settings, d: u8) -> Settings
 fn semicolon_read(s: Settings) -> Settings
     ensures { result ≡ semicolon_read s }
 {
-    let mut t = s;
-    if s.semicolons < 3 {
-        t.semicolons = s.semicolons + 1;
+    let semicolons = if s.semicolons < 3 {
+        s.semicolons + 1
     } else {
-        t.semicolons = 3;
-    }
-    t
+        3
+    };
+    Settings { semicolons, ..s }
 }
 
 // A digit or a semicolon.
+#[tactic(auto, using(printer::proofs::Capped::digit_least), unfolding(printer::specs::Brackets::setting_byte))]
 pub fn setting_byte(s: Settings, b: u8) -> Settings
     requires { continues b ≡ true }
     ensures { result ≡ setting_byte b s }
@@ -91,24 +86,20 @@ pub fn setting_byte(s: Settings, b: u8) -> Settings
 }
 
 // The number of a command that takes one, and no semicolon.
-fn only(s: Settings) -> Setting
+#[tactic(auto, unfolding(printer::specs::Brackets::only))]
+fn only(s: Settings) -> Option<u16>
     ensures { result ≡ only s }
 {
-    let first = s.first;
-    if s.semicolons == 0 {
-        first
-    } else {
-        Setting::Omitted
-    }
+    if s.semicolons == 0 { s.first } else { None }
 }
 
 // An omitted number keeps its setting.
-fn or_kept(setting: Setting, n: usize) -> usize
+fn or_kept(setting: Option<u16>, n: usize) -> usize
     ensures { result ≡ or_kept setting n }
 {
     match setting {
-        Setting::Omitted => n,
-        Setting::Given(k) => k as usize,
+        None => n,
+        Some(k) => usize::from(k),
     }
 }
 
@@ -119,13 +110,11 @@ fn resized(s: Settings, form: Form) -> Form
     let first = s.first;
     let second = s.second;
     let third = s.third;
-    let top = form.top;
-    let bottom = form.bottom;
     Form {
         lines: or_kept(first, form.lines),
-        spacing: form.spacing,
-        top: line(or_kept(second, lines_through(top))),
-        bottom: line(or_kept(third, lines_through(bottom))),
+        top: line(or_kept(second, lines_through(form.top))),
+        bottom: line(or_kept(third, lines_through(form.bottom))),
+        ..form
     }
 }
 
@@ -133,17 +122,11 @@ fn resized(s: Settings, form: Form) -> Form
 fn respaced(form: Form, spacing: usize) -> Form
     ensures { result ≡ respaced spacing form }
 {
-    let top = form.top;
-    let bottom = form.bottom;
-    Form {
-        lines: form.lines,
-        spacing,
-        top,
-        bottom,
-    }
+    Form { spacing, ..form }
 }
 
 // In place: on a fresh line at the top margin's first row.
+#[tactic(auto, using(state::proofs::Forms::top_bounded), unfolding(printer::specs::Brackets::at_top))]
 fn at_top(p: Printer) -> bool
     requires { SoundForm (edition_of p) p.form }
     ensures { result ≡ at_top (bare p) }
@@ -154,9 +137,10 @@ fn at_top(p: Printer) -> bool
 }
 
 // Another form, where it is allowed and in place; else a note.
+#[tactic(auto, unfolding(printer::specs::Brackets::reform, printer::specs::Brackets::reformed, printer::specs::Brackets::at_top))]
 fn reform(p: Printer, allowed: bool, form: Form, place: u32) -> Stepped
     requires sound_form { SoundForm (edition_of p) p.form }
-    requires allowed_form { allowed ≡ true → (form.lines ≤ 112) × (1 ≤ form.top.0) × (form.top.0 ≤ 128) }
+    requires allowed_form { allowed ≡ true → FormFits form }
     ensures { (m : Machine) → over m result ≡ reform allowed form place (with_printer p m) }
 {
     if !allowed {
@@ -176,12 +160,13 @@ fn restyled(p: Printer, pitch: Pitch, elongated: bool, place: u32) -> Stepped
 }
 
 // v w.
-fn style(p: Printer, setting: Setting, place: u32) -> Stepped
+#[tactic(auto, unfolding(printer::specs::Brackets::style))]
+fn style(p: Printer, setting: Option<u16>, place: u32) -> Stepped
     ensures { (m : Machine) → over m result ≡ style (edition_of p) setting place (with_printer p m) }
 {
     match setting {
-        Setting::Omitted => noted(p, Fault::WrongBytes, place),
-        Setting::Given(v) => match v {
+        None => noted(p, Fault::WrongBytes, place),
+        Some(v) => match v {
             0 => restyled(p, Pitch::Normal, true, place),
             2 => restyled(p, Pitch::Compressed, true, place),
             4 => restyled(p, Pitch::Normal, false, place),
@@ -203,6 +188,7 @@ fn form_allowed(p: Printer, s: Settings, form: Form) -> bool
 }
 
 // N1;N2;N3 r.
+#[tactic(auto, using(crate::proofs::Reforming::allowed_bounded), unfolding(printer::specs::Brackets::resize))]
 fn resize(p: Printer, s: Settings, place: u32) -> Stepped
     requires { SoundForm (edition_of p) p.form }
     ensures { (m : Machine) → over m result ≡ resize (edition_of p) s place (with_printer p m) }
@@ -213,14 +199,15 @@ fn resize(p: Printer, s: Settings, place: u32) -> Stepped
 }
 
 // 1 z, 2 z.
-fn respace(p: Printer, setting: Setting, place: u32) -> Stepped
+#[tactic(auto, using(state::proofs::Forms::form_bounded), unfolding(printer::specs::Brackets::respace))]
+fn respace(p: Printer, setting: Option<u16>, place: u32) -> Stepped
     requires { SoundForm (edition_of p) p.form }
     ensures { (m : Machine) → over m result ≡ respace (edition_of p) setting place (with_printer p m) }
 {
     let form = p.form;
     match setting {
-        Setting::Omitted => noted(p, Fault::WrongBytes, place),
-        Setting::Given(v) => match v {
+        None => noted(p, Fault::WrongBytes, place),
+        Some(v) => match v {
             1 => reform(p, true, respaced(form, 6), place),
             2 => reform(p, true, respaced(form, 8), place),
             _ => noted(p, Fault::WrongBytes, place),
@@ -229,6 +216,7 @@ fn respace(p: Printer, setting: Setting, place: u32) -> Stepped
 }
 
 // The whole command, by its last byte.
+#[tactic(auto, unfolding(printer::specs::Brackets::bracket))]
 pub fn bracket(p: Printer, s: Settings, last: u8, place: u32) -> Stepped
     requires { SoundForm (edition_of p) p.form }
     ensures { (m : Machine) → over m result ≡ bracket (edition_of p) s last place (with_printer p m) }

@@ -13,7 +13,7 @@ use state::parts::{noted, quiet, with_pending};
 pub fn stage(staging: &mut [u8], k: u16, b: u8)
     ensures { staging.new ≡ slice_set staging.old k b }
 {
-    let i = k as usize;
+    let i = usize::from(k);
     if i < staging.len() {
         staging[i] = b;
     }
@@ -25,31 +25,19 @@ pub fn loaded(l: Load, b: u8) -> Load
     ensures { result ≡ loaded l b }
 {
     Load {
-        count: l.count,
-        address: l.address,
         taken: l.taken + 1,
-        sum: std::num::wrapping_add_u8(l.sum, b),
-    }
-}
-
-// Copies the first n bytes of `from` over the first n of `to`.
-fn copy(to: &mut [u8], from: &[u8], n: usize)
-    requires { (n ≤ length to.old) × (n ≤ length from.now) }
-    ensures { to.new ≡ take n from.now ++ drop n to.old }
-{
-    let mut i = 0;
-    while i < n {
-        to[i] = from[i];
-        i += 1;
+        sum: l.sum.wrapping_add(b),
+        ..l
     }
 }
 
 // Puts the first n staged bytes into the download store from byte `at` on.
+#[tactic(auto, unfolding(printer::specs::Downloads::replaced))]
 fn replace(store: &mut [u8], staging: &[u8], at: usize, n: usize)
     requires { (at + n ≤ length store.old) × (n ≤ length staging.now) }
     ensures { store.new ≡ replaced at n staging.now store.old }
 {
-    copy(&mut store[at..], staging, n);
+    store[at..at + n].copy_from_slice(&staging[..n]);
 }
 
 // The addresses of the download store: its first, and the one past its last.
@@ -58,6 +46,7 @@ const FIRST_ADDRESS: usize = 2048;
 const PAST_ADDRESS: usize = 4096;
 
 // The payload is not whole glyphs within the download store, or there is none.
+#[tactic(auto, unfolding(printer::specs::Downloads::out_of_range))]
 fn out_of_range(count: u16, address: u16) -> bool
     ensures { result ≡ out_of_range count address }
 {
@@ -79,6 +68,7 @@ fn out_of_range(count: u16, address: u16) -> bool
 }
 
 // The checksum byte.
+#[tactic(auto, using(printer::proofs::StaysSound::in_range), unfolding(printer::specs::Downloads::download))]
 fn download(
     p: Printer,
     l: Load,
@@ -91,7 +81,7 @@ fn download(
     ensures { (page line : List ℕ) → given result page line staging.now store.new
         ≡ download l.count l.address l.sum checksum place (machine p page line staging.now store.old) }
 {
-    if std::num::wrapping_add_u8(l.sum, checksum) != 0 {
+    if l.sum.wrapping_add(checksum) != 0 {
         return noted(p, Fault::Checksum, place);
     }
     if out_of_range(l.count, l.address) {
@@ -107,6 +97,7 @@ fn download(
 }
 
 // A payload byte, or the checksum once all of the payload is there.
+#[tactic(auto, unfolding(printer::specs::Bytes::payload_byte))]
 pub fn payload_byte(
     p: Printer,
     l: Load,

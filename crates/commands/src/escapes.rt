@@ -6,7 +6,6 @@ ghost use Rattle.printer.specs.Given.{bare, given, machine, over};
 ghost use Rattle.printer.specs.Machine.{Machine, edition_of, store_size, with_printer};
 
 use printer::{Fault, Printer, Stepped};
-use sheet::clearing::{blank, empty};
 use sheet::counts::{line, lines_above};
 use sheet::sizes::{line_of, mixed};
 use sheet::{Form, Line, Pitch};
@@ -16,17 +15,17 @@ use state::parts::{
 use state::tabs::with_tab;
 
 // The tab of a line set or cleared.
+#[tactic(auto, unfolding(printer::specs::Escapes::tab))]
 fn tab(p: Printer, on: bool, line: Line) -> Printer
     requires { 1 ≤ line.0 }
     ensures { result ≡ (tab on line (bare p)).printer }
 {
     let tabs = with_tab(p.tabs, lines_above(line), on);
-    let mut q = p;
-    q.tabs = tabs;
-    q
+    Printer { tabs, ..p }
 }
 
 // The tab of the current line.
+#[tactic(auto, unfolding(printer::specs::Escapes::tab_here, sheet::specs::Form::line_of))]
 fn tab_here(p: Printer, on: bool) -> Printer
     ensures { result ≡ (tab_here on (bare p)).printer }
 {
@@ -35,6 +34,7 @@ fn tab_here(p: Printer, on: bool) -> Printer
     tab(p, on, line_of(form, row))
 }
 
+#[tactic(auto, unfolding(sheet::specs::Form::has_line))]
 fn has_line(form: Form, n: usize) -> bool
     ensures { result ≡ has_line form n }
 {
@@ -42,6 +42,7 @@ fn has_line(form: Form, n: usize) -> bool
 }
 
 // An item of a tab list, at its own place.
+#[tactic(auto, unfolding(printer::specs::Escapes::tab_item, printer::specs::Escapes::tab, sheet::specs::Form::has_line))]
 pub fn tab_item(p: Printer, n: u8, place: u32) -> Stepped
     ensures { (m : Machine) → over m result ≡ tab_item n place (with_printer p m) }
 {
@@ -55,6 +56,7 @@ pub fn tab_item(p: Printer, n: u8, place: u32) -> Stepped
 }
 
 // What is allowed on fresh lines only.
+#[tactic(auto, unfolding(printer::specs::Escapes::in_turn))]
 fn in_turn(p: Printer, after: Printer, place: u32) -> Stepped
     ensures { (m : Machine) → over m result ≡ in_turn place (with_printer p m) (with_printer after m) }
 {
@@ -66,6 +68,7 @@ fn in_turn(p: Printer, after: Printer, place: u32) -> Stepped
 }
 
 // What is allowed anywhere where the model lets the pitch change, else on fresh lines only.
+#[tactic(auto, unfolding(printer::specs::Escapes::repitched))]
 pub(crate) fn repitched(p: Printer, after: Printer, place: u32) -> Stepped
     ensures { (m : Machine) → over m result ≡ repitched (edition_of p) place (with_printer p m) (with_printer after m) }
 {
@@ -78,6 +81,7 @@ pub(crate) fn repitched(p: Printer, after: Printer, place: u32) -> Stepped
 }
 
 // ESC c and a byte.
+#[tactic(auto, using(sheet::proofs::Emptying::line_emptied, printer::proofs::Ready::store_emptied), unfolding(printer::specs::Escapes::reset, printer::specs::Escapes::after_reset, printer::specs::Escapes::clear_tabs))]
 pub fn reset(p: Printer, b: u8, place: u32, line: &mut [u16], store: &mut [u8]) -> Stepped
     requires { (length line.old ≡ (edition_of p).columns) × (length store.old ≡ store_size) }
     ensures { (page staging : List ℕ) → given result page line.new staging store.new
@@ -86,12 +90,13 @@ pub fn reset(p: Printer, b: u8, place: u32, line: &mut [u16], store: &mut [u8]) 
     if b != 0 {
         return noted(p, Fault::WrongBytes, place);
     }
-    empty(line);
-    blank(store);
+    line.fill(0);
+    store.fill(0);
     quiet(after_reset(p))
 }
 
 // ESC N and two bytes.
+#[tactic(auto, unfolding(printer::specs::Escapes::select))]
 pub fn select(p: Printer, high: u8, low: u8, place: u32) -> Stepped
     ensures { (m : Machine) → over m result ≡ select high low place (with_printer p m) }
 {
@@ -105,6 +110,7 @@ pub fn select(p: Printer, high: u8, low: u8, place: u32) -> Stepped
 }
 
 // ESC and one byte, which with it is a whole command, or unknown.
+#[tactic(auto, unfolding(printer::specs::Escapes::escape, printer::specs::Escapes::tab_here, printer::specs::Escapes::tab))]
 pub fn escape(p: Printer, b: u8, place: u32) -> Stepped
     ensures { (m : Machine) → over m result ≡ escape (edition_of p) b place (with_printer p m) }
 {

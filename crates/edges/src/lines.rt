@@ -1,50 +1,49 @@
-// The words of the lines. Each function answers whether standard output took its words.
+// The words of the lines.
 use crate::memory::Told;
 use printer::Closing;
-use report::{say, say_number};
+use protocol::Answer;
+use protocol::numbers::{answer_number, note_number};
+use report::{Unwritten, say, say_number};
 
 // Writes words, what a feeding answered and how many bytes it took, and of a note its number and place.
-pub fn say_feeding(rt: &(impl Print + Eprint), words: &[u8], t: Told) -> bool {
-    if !say_number(rt, words, t.answer) {
-        return false;
+pub fn say_feeding(rt: &(impl Print + Eprint), words: &[u8], t: Told) -> Result<(), Unwritten> {
+    say_number(rt, words, answer_number(t.answer))?;
+    say_number(rt, b" ", t.taken as u64)?;
+    if let Answer::Noted(fault, place) = t.answer {
+        say_number(rt, b" note ", note_number(fault))?;
+        say_number(rt, b" at ", u64::from(place))?;
     }
-    if !say_number(rt, b" ", t.taken as u64) {
-        return false;
-    }
-    if t.answer != 2 {
-        return true;
-    }
-    say_number(rt, b" note ", t.note) && say_number(rt, b" at ", t.place)
+    Ok(())
 }
 
 // Writes whether the memory or the state is the same as before.
-pub fn say_same(rt: &(impl Print + Eprint), words: &[u8], same: bool) -> bool {
+pub fn say_same(rt: &(impl Print + Eprint), words: &[u8], same: bool) -> Result<(), Unwritten> {
+    say(rt, words)?;
     if same {
-        say(rt, words) && say(rt, b" same")
+        say(rt, b" same")
     } else {
-        say(rt, words) && say(rt, b" changed")
+        say(rt, b" changed")
     }
 }
 
 // Writes words and how a job closes, and ends the line.
-pub fn say_closing(rt: &(impl Print + Eprint), words: &[u8], closing: Closing) -> bool {
-    if !say(rt, words) {
-        return false;
-    }
-    match closing {
-        Closing::Clean => say(rt, b"CLEAN\n"),
-        Closing::Unprinted => say(rt, b"LINE\n"),
-        Closing::Unfinished(place) => say_number(rt, b"OPEN ", place as u64) && say(rt, b"\n"),
-        Closing::Unsound => say(rt, b"10\n"),
-    }
+pub fn say_closing(
+    rt: &(impl Print + Eprint),
+    words: &[u8],
+    closing: Closing,
+) -> Result<(), Unwritten> {
+    report::say_closing(rt, words, closing, b"10")
 }
 
 // Writes a line's kind and name.
-pub fn say_name(rt: &(impl Print + Eprint), kind: &[u8], name: &[u8]) -> bool {
-    say(rt, b"EDGE ") && say(rt, kind) && say(rt, name)
+pub fn say_name(rt: &(impl Print + Eprint), kind: &[u8], name: &[u8]) -> Result<(), Unwritten> {
+    say(rt, b"EDGE ")?;
+    say(rt, kind)?;
+    say(rt, name)
 }
 
 // Writes that a line of the table is not understood.
-pub fn say_unknown(rt: &(impl Print + Eprint), number: u64) -> bool {
-    say_number(rt, b"EDGE line ", number) && say(rt, b" not understood\n")
+pub fn say_unknown(rt: &(impl Print + Eprint), number: u64) -> Result<(), Unwritten> {
+    say_number(rt, b"EDGE line ", number)?;
+    say(rt, b" not understood\n")
 }

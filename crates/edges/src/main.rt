@@ -4,7 +4,7 @@
 
 ghost use Rattle.std.specs.Prelude.{◌≤◌, length};
 
-use report::{say, unread};
+use report::{Unwritten, say, unread};
 use std::io::Read;
 use walk::walk;
 
@@ -13,12 +13,14 @@ mod lines;
 mod memory;
 mod perform;
 mod setting;
-mod table;
 mod walk;
 
+// The bytes that hold a table, and one more.
+const TABLE_SPACE: usize = 65536;
+
 // Performs a table, or says that it fills its store, and may be longer.
-fn perform_table(rt: &(impl Print + Eprint), table: &[u8]) -> bool {
-    if table.len() < 65536 {
+fn perform_table(rt: &(impl Print + Eprint), table: &[u8]) -> Result<(), Unwritten> {
+    if table.len() < TABLE_SPACE {
         walk(rt, table)
     } else {
         say(rt, b"EDGE table too long\n")
@@ -30,23 +32,18 @@ fn read_full(input: &mut impl Read, bytes: &mut [u8]) -> usize
     ensures { result ≤ length bytes.new }
 {
     let mut done = 0;
-    while done < bytes.len() {
-        let got = input.read(&mut bytes[done..]);
-        match got {
-            Ok(0) => return done,
-            Ok(more) => done += more,
-            Err(_) => return done,
-        }
+    while let Ok(more @ 1..) = input.read(&mut bytes[done..]) {
+        done += more;
     }
     done
 }
 
 // Reads the table whole, and performs it. Where it can't be written, that is told already.
 fn main(rt: HostRuntime) {
-    let mut store = [0u8; 65536];
-    let count = read_full(&mut rt.stdin(), &mut store);
+    let mut table = [0u8; TABLE_SPACE];
+    let count = read_full(&mut rt.stdin(), &mut table);
     if count == 0 {
         unread(&rt);
     }
-    perform_table(&rt, &store[..count]);
+    let _ = perform_table(&rt, &table[..count]);
 }

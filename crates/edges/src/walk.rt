@@ -1,191 +1,115 @@
 // Reads the table line by line, and performs each case.
-ghost use Rattle.std.specs.Prelude.{◌≤◌, length};
-
-use crate::case::{Case, new_case, unknown};
+use crate::case::{Case, Kind, Piece};
 use crate::lines::{say_name, say_unknown};
-use crate::memory::wide;
 use crate::perform::perform;
 use crate::setting::set;
-use crate::table::{SEND, WITH};
+use report::Unwritten;
 
-// A number of the table, or letters that are none.
-#[derive(Clone, Copy)]
-enum Number {
-    Is(usize),
-    Wrong,
-}
-
-// The first place, from a place on, that has a byte, or the end.
-fn find(text: &[u8], from: usize, byte: u8) -> usize
-    requires { from ≤ length text.now }
-    ensures { (from ≤ result) × (result ≤ length text.now) }
-{
-    let mut i = from;
-    while i < text.len() {
-        if text[i] == byte {
-            return i;
-        }
-        i += 1;
+// The letters of a word. Bytes of 0 before them count for nothing.
+fn letters(text: &[u8]) -> &[u8] {
+    match text.iter().position(|byte| *byte != 0) {
+        Some(first) => &text[first..],
+        None => &[],
     }
-    i
 }
 
-// A word as one number, or 1 where it has more than eight letters.
-fn read_word(text: &[u8]) -> u64 {
-    let mut word = 0;
-    let mut i = 0;
-    while i < text.len() {
-        if word >= 72057594037927936 {
-            return 1;
-        }
-        word = word * 256 + wide(text[i]);
-        i += 1;
-    }
-    word
-}
-
-// The value of a hexadecimal digit, or 16.
-fn digit_value(digit: u64) -> u64 {
+// The value of a hexadecimal digit.
+fn digit_value(digit: u8) -> Option<u8> {
     match digit {
-        48..=57 => digit - 48,
-        65..=70 => digit - 55,
-        _ => 16,
+        b'0'..=b'9' => Some(digit - b'0'),
+        b'A'..=b'F' => Some(digit - b'A' + 10),
+        _ => None,
     }
 }
 
 // The number that decimal digits are, if there are any, and it is at most 18,446,744,073,709,551,615.
-fn read_number(text: &[u8]) -> Number {
-    let mut number: u64 = 0;
-    let mut i = 0;
-    while i < text.len() {
-        let digit = digit_value(wide(text[i]));
-        if digit > 9 {
-            return Number::Wrong;
-        }
-        if number > (u64::MAX - digit) / 10 {
-            return Number::Wrong;
-        }
-        number = number * 10 + digit;
-        i += 1;
+fn read_number(text: &[u8]) -> Option<usize> {
+    if text.is_empty() {
+        return None;
     }
-    if i == 0 {
-        return Number::Wrong;
+    let mut number = 0usize;
+    for byte in text {
+        match byte {
+            b'0'..=b'9' => number = number
+                .checked_mul(10)?
+                .checked_add(usize::from(byte - b'0'))?,
+            _ => return None,
+        }
     }
-    Number::Is(number as usize)
+    Some(number)
 }
 
-// Puts a byte, a word of two hexadecimal digits, at the end of the piece.
-fn take_byte(mut c: Case, word: u64, piece: &mut [u8; 64]) -> Case {
-    let high = digit_value(word / 256);
-    let low = digit_value(word % 256);
-    let count = c.count;
-    if high > 15 {
-        return unknown(c);
+// Takes a word with no number: `with`, `send` or, after that, a byte of the piece, a word of two hexadecimal digits.
+fn take_word(c: &mut Case, word: &[u8]) -> Option<()> {
+    match (&mut c.piece, word) {
+        (_, []) => {}
+        (Some(piece), [high, low]) => {
+            piece.push(digit_value(*high)? << 4 | digit_value(*low)?)?;
+        }
+        (None, b"with") => c.other = c.state,
+        (None, b"send") => c.piece = Some(Piece::new()),
+        _ => return None,
     }
-    if low > 15 {
-        return unknown(c);
-    }
-    if count >= 64 {
-        return unknown(c);
-    }
-    piece[count] = (high * 16 + low) as u8;
-    let next = count + 1;
-    c.count = next;
-    c
+    Some(())
 }
 
-// Takes a word with no number: `with`, `send` or, after that, a byte of the piece.
-fn take_word(mut c: Case, word: u64, piece: &mut [u8; 64]) -> Case {
-    if word == 0 {
-        return c;
-    }
-    if c.sends {
-        return take_byte(c, word, piece);
-    }
-    match word {
-        WITH => {
-            let state = c.state;
-            c.other = state;
-        }
-        SEND => c.sends = true,
-        _ => c.known = false,
-    }
-    c
+// What stands before and after the first such byte, if there is one.
+fn split_once(text: &[u8], byte: u8) -> Option<(&[u8], &[u8])> {
+    let at = text.iter().position(|other| *other == byte)?;
+    Some((&text[..at], &text[at + 1..]))
 }
 
 // Takes a setting, or a word with no number.
-fn take_setting(c: Case, text: &[u8], piece: &mut [u8; 64]) -> Case {
-    let equals = find(text, 0, b'=');
-    let word = read_word(&text[0..equals]);
-    if equals == text.len() {
-        return take_word(c, word, piece);
-    }
-    let from = equals + 1;
-    let number = read_number(&text[from..]);
-    match number {
-        Number::Is(n) => set(c, word, n),
-        Number::Wrong => unknown(c),
+fn take_setting(c: &mut Case, text: &[u8]) -> Option<()> {
+    match split_once(text, b'=') {
+        Some((word, number)) => set(c, letters(word), read_number(number)?),
+        None => take_word(c, letters(text)),
     }
 }
 
-// Reads the settings of a case, and its piece. Each starts with a space.
-fn read_case(kind: u64, text: &[u8], piece: &mut [u8; 64]) -> Case {
-    let mut c = new_case(kind);
-    let mut at = 0;
-    while at < text.len() {
-        let from = at + 1;
-        let end = find(text, from, b' ');
-        c = take_setting(c, &text[from..end], piece);
-        at = end;
+// Reads a case: its kind, and its settings and piece, with a space between any two.
+fn read_case(kind: &[u8], settings: &[u8]) -> Option<Case> {
+    let mut c = Case::new(Kind::of(letters(kind))?);
+    for setting in settings.split(|byte| *byte == b' ') {
+        take_setting(&mut c, setting)?;
     }
-    c
+    Some(c)
 }
 
-// Writes a case's name and performs it, if its line is understood, or says that it is not.
-fn perform_known(
-    rt: &(impl Print + Eprint),
-    c: Case,
-    bytes: &[u8; 64],
-    kind: &[u8],
-    name: &[u8],
-    number: u64,
-) -> bool {
-    if !c.known {
-        return say_unknown(rt, number);
-    }
-    say_name(rt, kind, name) && perform(rt, c, bytes)
+// A line that is understood.
+struct Line<'a> {
+    kind: &'a [u8],
+    name: &'a [u8],
+    case: Case,
 }
 
-// Reads the case of a line, which has a colon before its name, and performs it.
-fn perform_line(rt: &(impl Print + Eprint), line: &[u8], number: u64) -> bool {
-    let end = find(line, 0, b' ');
-    let colon = find(line, end, b':');
-    if colon == line.len() {
-        return say_unknown(rt, number);
+// Reads a line, which has a colon before its name.
+fn read_line(line: &[u8]) -> Option<Line<'_>> {
+    let (kind, rest) = split_once(line, b' ')?;
+    let (settings, name) = split_once(rest, b':')?;
+    let case = read_case(kind, settings)?;
+    Some(Line { kind, name, case })
+}
+
+// Performs the case of a line, if it is understood, or says that it is not.
+fn perform_line(rt: &(impl Print + Eprint), line: &[u8], number: u64) -> Result<(), Unwritten> {
+    match read_line(line) {
+        Some(Line { kind, name, case }) => {
+            say_name(rt, kind, name)?;
+            perform(rt, &case)
+        }
+        None => say_unknown(rt, number),
     }
-    let name = colon + 1;
-    let kind = read_word(&line[0..end]);
-    let mut piece = [0u8; 64];
-    let c = read_case(kind, &line[end..colon], &mut piece);
-    perform_known(rt, c, &piece, &line[0..end], &line[name..], number)
 }
 
 // Performs every line but the empty ones and comments, which start with #. The last line ends as the others do.
-pub fn walk(rt: &(impl Print + Eprint), table: &[u8]) -> bool {
-    let mut number = 0;
-    let mut at = 0;
-    while at < table.len() {
-        let end = find(table, at, b'\n');
-        number = std::num::wrapping_add_u64(number, 1);
-        if end == table.len() {
-            return say_unknown(rt, number);
+pub fn walk(rt: &(impl Print + Eprint), table: &[u8]) -> Result<(), Unwritten> {
+    for (number, line) in (1u64..).zip(table.split_inclusive(|byte| *byte == b'\n')) {
+        match line {
+            [b'\n'] | [b'#', .., b'\n'] => {}
+            [line @ .., b'\n'] => perform_line(rt, line, number)?,
+            _ => say_unknown(rt, number)?,
         }
-        if end > at && table[at] != b'#' {
-            if !perform_line(rt, &table[at..end], number) {
-                return false;
-            }
-        }
-        at = end + 1;
     }
-    true
+    Ok(())
 }

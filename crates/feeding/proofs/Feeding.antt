@@ -4,7 +4,7 @@ use mathlib.Core.Bool.{Bool, true, false, true≢false}
 use mathlib.Core.List.{List, [], ◌∷◌}
 use mathlib.Core.Path.{◌≡◌, refl, ap, subst, sym, ◌∙◌}
 use native.Mathlib.Omega.{arith}
-use borrow.Author.Tests.{eq-eqb, ne_eqb}
+use borrow.Author.Tests.{eq-eqb}
 use lib.ListN.{get_or, length}
 use Rattle.sheet.specs.Edition.{Edition}
 use Rattle.sheet.proofs.Editions.{Proper}
@@ -17,17 +17,13 @@ use Rattle.printer.specs.Room.{Ready}
 use Rattle.printer.specs.Sound.{sound}
 use Rattle.protocol.specs.declared.Answer.{Answer}
 use Rattle.protocol.specs.declared.Answer.TheVariants.{Done, Finished, Noted, JobFull, Unsound, Misfit, WrongLines, WrongSpacing}
-use Rattle.protocol.specs.declared.Fit.{Fit}
-use Rattle.protocol.specs.declared.Fit.TheVariants.{Right, Wrong}
-use Rattle.protocol.specs.declared.Lent as lent
+use Rattle.std.specs.Prelude.{None, Ok, Option, Some}
 use Rattle.protocol.specs.declared.Lent.TheVariants.{Page, LineStore, Staging, DownloadStore, Font}
 use Rattle.protocol.specs.Answers.{lent_number, refusal, report}
-use Rattle.protocol.specs.Calls.{Feeding, feed_fitted, feeding, fit, take_bytes}
+use Rattle.protocol.specs.Calls.{Fit, Feeding, feed_fitted, feeding, fit, take_bytes}
 use Rattle.protocol.proofs.Accepted.{takes_fed}
 use Rattle.protocol.proofs.Answering.{taking_heeds}
-use Rattle.protocol.proofs.Ways.{feed_misfit, feed_unsound}
-use Rattle.runs.specs.declared.Reached.{Reached}
-use Rattle.runs.specs.declared.Reached.TheVariants.{Nowhere, At}
+use Rattle.protocol.proofs.Ways.{feed_unsound}
 use Rattle.runs.specs.Runs.{given_run, reached, running}
 use Rattle.runs.proofs.Leading.{run_leads}
 use Rattle.runs.proofs.Running.{room-taken, stays_put}
@@ -75,12 +71,7 @@ module _ (e : Edition) (font piece : List ℕ) (m : Machine) where
   unsound_first s = ap unheard (feed_unsound e font piece m s)
 
   module _ (s : sound e m.printer ≡ true) {tested : Fit} (is : tested ≡ fit e m.printer.form font m) where
-    pub misfit_first : {lent : lent.Lent} {number : ℕ} → tested ≡ Wrong lent → number ≡ (report (Misfit lent)).number
-        → number ≡ unheard (feeding e font piece m)
-    unfolding refused_or refusal
-    misfit_first w n = n ∙ ap unheard (feed_misfit e font piece m s is w)
-
-    pub report_last : tested ≡ Right → 22 ≡ unheard (feeding e font piece m)
+    pub report_last : tested ≡ (Ok tt) → 22 ≡ unheard (feeding e font piece m)
     unfolding refused_or feeding feed_fitted
     report_last r = rw (s, ← is, r, taking_heeds e font piece m)
 
@@ -92,18 +83,9 @@ module _ (x : Lent) (piece told : List ℕ) where
   abbrev pub Feeds : Called → Type 0
   Feeds g = (g ≡ at_feed) × (g.number ≤ 3 → is_state g.state ≡ true)
 
-  pub feed_10 : is_state x.state ≡ false → Feeds (left_alone x 10 told)
-  unfolding feed_call
-  feed_10 q = (simp q, λ m. absurd (omega arith))
-
   module _ (q : is_state x.state ≡ true) {p : Printer} (s : p ≡ state_of x.state) where
     abbrev lent_to : Machine
     lent_to = machine p x.page x.line x.staging x.store
-
-    pub feed_unreported : {number : ℕ} → (length told ≡ report_size → ⊥)
-        → number ≡ refused_or 22 (feeding (edition_of p) x.font piece lent_to).answer → Feeds (left_alone x number told)
-    unfolding feed_call
-    feed_unreported n r = (rw (q, ne_eqb (length told) report_size n, r, s), λ m. q)
 
     pub feeds : (f : Feeding) → length told ≡ report_size → f ≡ feeding (edition_of p) x.font piece lent_to
         → feeding_words f x.state told ≡ at_feed
@@ -131,11 +113,6 @@ module _ (x : Lent) (piece told : List ℕ) where
         let heeded : refusal f.answer ≡ false = sym r ∙ q in
         (rw (← e, heeded, n, w.0, s, a, b), λ m. w.1)
 
--- feeding goes by what is lent
-pub fed_alike : (font piece page staging store : List ℕ) (g : Called) {state state' line line' told told' : List ℕ} → state' ≡ state → line' ≡ line
-    → told' ≡ told → g ≡ feed_call font piece state' page line' staging store told' → g ≡ feed_call font piece state page line staging store told
-fed_alike font piece page staging store g a b c e = e ∙ simp (a, b, c)
-
 -- a piece of no byte, and of one
 pub no_byte : (piece : List ℕ) → length piece ≡ 0 → piece ≡ []
 no_byte [] l = refl
@@ -160,7 +137,7 @@ none_fed x told {p} rests k s ready w t =
     fed_on x [] told fed (feeds x [] told held whole fed k (takes_fed ready.0 x.font ready.1 [] fed refl)) refl refl refl (w, held) t refl refl
 
 -- A byte fed to words at rest, by where it has brought the head.
-module _ (x : Lent) (b : ℕ) (p : Printer) (r : Reached) (after : List ℕ) where
+module _ (x : Lent) (b : ℕ) (p : Printer) (r : Option ℕ) (after : List ℕ) where
   abbrev lent_at : Machine
   lent_at = machine p x.page x.line x.staging x.store
 
@@ -168,22 +145,22 @@ module _ (x : Lent) (b : ℕ) (p : Printer) (r : Reached) (after : List ℕ) whe
   RanTo = given_run (reached r p) x.page after x.staging x.store ≡ running (edition_of p) x.font (b ∷ []) lent_at
 
   -- nowhere: the line is as it was
-  pub byte_left : RanTo → r ≡ Nowhere → after ≡ x.line
+  pub byte_left : RanTo → r ≡ None → after ≡ x.line
   unfolding reached
   byte_left ran is =
       ap (λ (m : Machine). m.line)
       (stays_put (edition_of p) x.font b lent_at (given_run (reached r p) x.page after x.staging x.store) ran
-      (ap (λ (q : Reached). (reached q p).taken) is))
+      (ap (λ (q : Option ℕ). (reached q p).taken) is))
 
   -- to a column: in a job that has room for it
-  pub byte_room : {column : ℕ} → RanTo → r ≡ At column → p.job < limit
+  pub byte_room : {column : ℕ} → RanTo → r ≡ Some column → p.job < limit
   unfolding reached
   byte_room ran is =
       room-taken (edition_of p) x.font b lent_at (given_run (reached r p) x.page after x.staging x.store) ran
-      (omega (arith, ap (λ (q : Reached). (reached q p).taken) is))
+      (omega (arith, ap (λ (q : Option ℕ). (reached q p).taken) is))
 
   -- it is fed, and the words change as the state does
-  module _ {column : ℕ} (ran : RanTo) (is : r ≡ At column) where
+  module _ {column : ℕ} (ran : RanTo) (is : r ≡ Some column) where
     abbrev fed : Feeding
     fed = record { answer = Done; taken = 1; machine = machine (moved column p) x.page after x.staging x.store }
 
@@ -191,8 +168,8 @@ module _ (x : Lent) (b : ℕ) (p : Printer) (r : Reached) (after : List ℕ) whe
         → fed ≡ feeding (edition_of p) x.font (b ∷ []) lent_at
     unfolding reached take_bytes
     byte_taken proper ready f =
-        let there : given_run (reached (At column) p) x.page after x.staging x.store ≡ running (edition_of p) x.font (b ∷ []) lent_at =
-        subst (λ (q : Reached). given_run (reached q p) x.page after x.staging x.store
+        let there : given_run (reached (Some column) p) x.page after x.staging x.store ≡ running (edition_of p) x.font (b ∷ []) lent_at =
+        subst (λ (q : Option ℕ). given_run (reached q p) x.page after x.staging x.store
         ≡ running (edition_of p) x.font (b ∷ []) lent_at) is ran in
         takes_fed ready x.font f (b ∷ []) fed (sym (run_leads (edition_of p) proper x.font {m = lent_at} there).same)
 

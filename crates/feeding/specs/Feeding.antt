@@ -1,6 +1,7 @@
 -- Feeding over words and lent memory. House: 22 is a report of the wrong length, refused after all that feeding refuses besides; what is no state at all
 -- is answered 10.
 use Rattle.std.specs.Prelude.{ℕ, cond, List, [], ◌∷◌, eqb, length}
+use Rattle.printer.specs.declared.Memory.{Memory}
 use Rattle.printer.specs.declared.Printer.{Printer}
 use Rattle.printer.specs.Given.{machine}
 use Rattle.printer.specs.Machine.{edition_of}
@@ -23,6 +24,10 @@ pub record Called : Type 0 where
 abbrev pub called : ℕ → List ℕ → List ℕ → List ℕ → List ℕ → List ℕ → List ℕ → Called
 called number state page line staging store report =
     record { number = number; state = state; page = page; line = line; staging = staging; store = store; report = report }
+
+-- the same with what a caller lends
+abbrev pub called_in : ℕ → List ℕ → Memory → List ℕ → Called
+called_in number state m report = called number state m.page.now m.line.now m.staging.now m.store.now report
 
 -- how many words a report has
 abbrev pub report_size : ℕ
@@ -56,3 +61,6 @@ feed_call font piece state page line staging store told =
     cond (is_state state)
     (cond (eqb (length told) report_size) (feeding_words f state told) (called (refused_or 22 f.answer) state page line staging store told))
     (called 10 state page line staging store told)
+
+abbrev pub feed_call_in : List ℕ → List ℕ → Memory → List ℕ → Called
+feed_call_in piece state m told = feed_call m.font.now piece state m.page.now m.line.now m.staging.now m.store.now told

@@ -1,16 +1,15 @@
 // A brief piece: one byte that is a character or a column, or none.
 ghost use Rattle.std.specs.Prelude.{◌≡◌, true, false, ◌≤◌, length};
-ghost use Rattle.printer.specs.Given.{machine};
+ghost use Rattle.printer.specs.Given.{LentOn, machine_in};
 ghost use Rattle.printer.specs.Machine.{edition_of, store_size};
 ghost use Rattle.printer.specs.Room.{Ready};
 ghost use Rattle.words.specs.Words.{is_state};
-ghost use Rattle.feeding.specs.Feeding.{called, feed_call};
+ghost use Rattle.feeding.specs.Feeding.{called_in, feed_call_in};
 
 use crate::{REPORT_WORDS, tell};
 use answers::fit;
-use printer::{Pending, Printer};
-use protocol::Fit;
-use runs::{Reached, single};
+use printer::{Memory, Pending, Printer};
+use runs::single;
 use state::{form_sound, rest_sound};
 use words::{advance, at_rest, state_with};
 
@@ -18,57 +17,51 @@ use words::{advance, at_rest, state_with};
 fn brief(piece: &[u8]) -> bool
     ensures { result ≡ true → length piece.now ≤ 1 }
 {
-    if piece.len() == 0 {
-        return true;
+    match piece {
+        [] => true,
+        [b] => *b != 0x1b,
+        _ => false,
     }
-    piece.len() == 1 && piece[0] != 0x1b
 }
 
 // Whether bytes may be fed: the state is sound, and all that is lent has its length.
-fn feedable(
-    p: Printer,
-    page: &[u8],
-    line: &[u16],
-    staging: &[u8],
-    store: &[u8],
-    font: &[u8],
-) -> bool
-    ensures { result ≡ true → Ready (edition_of p) (machine p page.now line.now staging.now store.now)
-        × (length font.now ≡ store_size) }
+#[tactic(auto, unfolding(printer::specs::Sound::sound, printer::specs::Sound::form_sound, sheet::specs::Form::lines_allowed, sheet::specs::Edition::lp2, sheet::specs::Edition::dg6215))]
+fn feedable(p: Printer, memory: &Memory<'_>) -> bool
+    ensures { result ≡ true → Ready (edition_of p) (machine_in p memory.now)
+        × (length memory.now.font.now ≡ store_size) }
 {
-    let model = p.model;
-    let form = p.form;
-    if !form_sound(model, form) {
+    if !form_sound(p.model, p.form) {
         return false;
     }
     if !rest_sound(p) {
         return false;
     }
-    let fitting = fit(model, form, page, line, staging, store, font);
-    match fitting {
-        Fit::Wrong(_) => false,
-        Fit::Right => true,
-    }
+    fit(
+        p.model,
+        p.form,
+        memory.page,
+        memory.line,
+        memory.staging,
+        memory.store,
+        memory.font,
+    )
+    .is_ok()
 }
 
 // Feeds a brief piece, if the state is at rest and the byte goes on a run; else nothing changes.
+#[tactic(auto, using(words::proofs::Ranges::state_halves, words::proofs::Resting::rest_is_state))]
 pub(crate) fn feed_brief(
     state: &mut [u64],
-    page: &[u8],
-    line: &mut [u16],
-    staging: &[u8],
-    store: &[u8],
-    font: &[u8],
+    memory: &mut Memory<'_>,
     piece: &[u8],
     report: &mut [u64],
 ) -> bool
     ensures done { result ≡ true
-        → (called 0 state.new page.now line.new staging.now store.now report.new
-        ≡ feed_call font.now piece.now state.old page.now line.old
-        staging.now store.now report.old)
+        → (called_in 0 state.new memory.new report.new ≡ feed_call_in piece.now state.old memory.old report.old)
         × (is_state state.new ≡ true) }
     ensures undone { result ≡ false
-        → (state.new ≡ state.old) × (line.new ≡ line.old) × (report.new ≡ report.old) }
+        → (state.new ≡ state.old) × (memory.new ≡ memory.old) × (report.new ≡ report.old) }
+    ensures lent { LentOn memory.old memory.new }
 {
     if !brief(piece) {
         return false;
@@ -80,17 +73,17 @@ pub(crate) fn feed_brief(
         return false;
     }
     let p = state_with(state, Pending::Nothing);
-    if !feedable(p, page, line, staging, store, font) {
+    if !feedable(p, memory) {
         return false;
     }
     if piece.len() == 0 {
         tell(report, 0, 0, 0);
         return true;
     }
-    let reached = single(p, piece[0], line, store, font);
-    match reached {
-        Reached::Nowhere => false,
-        Reached::At(column) => {
+    let font = memory.font;
+    match single(p, piece[0], memory.line, &mut *memory.store, font) {
+        None => false,
+        Some(column) => {
             advance(state, column);
             tell(report, 1, 0, 0);
             true

@@ -2,11 +2,13 @@
 #![tactic(auto)]
 
 ghost use Rattle.std.specs.Prelude.{◌≡◌, true, [], ◌∷◌, length, ◌≤◌};
+ghost use Rattle.printer.specs.Given.{LentOn};
 ghost use Rattle.words.specs.Words.{is_state};
-ghost use Rattle.feeding.specs.Feeding.{called, feed_call, refused_or, report_size};
+ghost use Rattle.feeding.specs.Feeding.{called_in, feed_call_in, refused_or, report_size};
 
 use brief::feed_brief;
 use piece::feed_piece;
+use printer::Memory;
 use protocol::Answer;
 use protocol::numbers::{answer_number, refusal};
 
@@ -28,6 +30,7 @@ pub fn tell(report: &mut [u64], taken: usize, number: u64, place: u64)
 }
 
 // The number of a refusal, or else that of what is lent beside it and has the wrong length.
+#[tactic(auto, unfolding(crate::specs::Feeding::refused_or))]
 pub fn refused_or(number: u64, answer: Answer) -> u64
     ensures { result ≡ refused_or number answer }
 {
@@ -40,21 +43,17 @@ pub fn refused_or(number: u64, answer: Answer) -> u64
 // Feeds a piece of the job. A single byte is most often a character or a column, which changes three words of the state.
 pub fn feed_words(
     state: &mut [u64],
-    page: &mut [u8],
-    line: &mut [u16],
-    staging: &mut [u8],
-    store: &mut [u8],
-    font: &[u8],
+    memory: &mut Memory<'_>,
     piece: &[u8],
     report: &mut [u64],
 ) -> u64
-    ensures outcome { called result state.new page.new line.new staging.new store.new report.new
-        ≡ feed_call font.now piece.now state.old page.old line.old
-        staging.old store.old report.old }
+    ensures outcome { called_in result state.new memory.new report.new
+        ≡ feed_call_in piece.now state.old memory.old report.old }
     ensures sound { result ≤ 3 → is_state state.new ≡ true }
+    ensures lent { LentOn memory.old memory.new }
 {
-    if feed_brief(state, page, line, staging, store, font, piece, report) {
+    if feed_brief(state, memory, piece, report) {
         return 0;
     }
-    feed_piece(state, page, line, staging, store, font, piece, report)
+    feed_piece(state, memory, piece, report)
 }

@@ -1,6 +1,5 @@
 -- What is true of the calls' code.
 pub mod Underway
 pub mod Offering
-pub mod Lent
 pub mod CodeCutting
 pub mod CodeDots

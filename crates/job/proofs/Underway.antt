@@ -22,7 +22,7 @@ use Rattle.printer.proofs.StaysSound.{step_fine}
 use Rattle.protocol.specs.declared.Answer.TheVariants.{Done, JobFull}
 use Rattle.protocol.specs.Calls.{Feeding, take_bytes}
 use Rattle.protocol.specs.Given.{answer_to, given_feeding, is_quiet, more}
-use Rattle.protocol.proofs.Taking.{more_zero, ready_room, taken_all, taken_full, taken_on, taken_out}
+use Rattle.protocol.proofs.Taking.{ready_room, taken_all, taken_full, taken_on, taken_out}
 use Rattle.runs.proofs.Leading.{Leads}
 
 -- i bytes of a piece have led from one machine to another, both of one edition
@@ -31,9 +31,6 @@ pub record Underway (e : Edition) (font piece : List ℕ) (m₀ m : Machine) (i 
   pub ready : Ready e m
   pub within : i ≤ length piece
   pub same : take_bytes e font piece m₀ ≡ more i (take_bytes e font (drop i piece) m)
-
-pub at_start : {font piece : List ℕ} {m : Machine} → let e = edition_of m.printer in Ready e m → Underway e font piece m m 0
-at_start h = record { edition = refl; ready = h; within = omega arith; same = more_zero _ }
 
 -- an event that is quiet
 quiet-event : (v : Event) → is_quiet v ≡ true → v ≡ event.Quiet

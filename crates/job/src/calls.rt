@@ -2,43 +2,38 @@
 ghost use Rattle.std.specs.Prelude.{◌≡◌, ◌≤◌, drop, length};
 ghost use Rattle.sheet.specs.declared.Form.{Form};
 ghost use Rattle.sheet.specs.Edition.{described, longest_page};
+ghost use Rattle.sheet.specs.Form.{TopFits};
 ghost use Rattle.printer.specs.declared.Printer.{Printer};
 ghost use Rattle.printer.specs.Closing.{closing};
-ghost use Rattle.printer.specs.Given.{machine};
+ghost use Rattle.printer.specs.Given.{LentOn, machine_in};
 ghost use Rattle.printer.specs.Machine.{edition_of, opened, store_size};
-ghost use Rattle.printer.specs.Room.{Ready, Sized};
+ghost use Rattle.printer.specs.Room.{Ready, SizedIn};
 ghost use Rattle.protocol.specs.Calls.{feeding, opening, page_due, take_bytes};
-ghost use Rattle.protocol.specs.Given.{given_feeding, given_opening, more};
+ghost use Rattle.protocol.specs.Given.{feeding_in, more, opening_in};
 
 use answers::{admit, answer_to, counted, fit, given, is_quiet, new_printer, unopened};
-use printer::{Closing, JOB_LIMIT, Printer};
+use printer::{Closing, JOB_LIMIT, Memory, Printer};
 use protocol::numbers::refusal;
-use protocol::{Answer, Fed, Fit, Opened};
+use protocol::{Answer, Fed, Opened};
 use reader::step;
 use runs::run;
-use sheet::clearing::{blank, empty};
 use sheet::sizes::{new_form, page_bytes};
 use sheet::{Form, Model};
 use state::{closing, form_sound, rest_sound, sound};
 
 // Zeroes the page and the stores, and starts a job of a form.
-fn start(
-    model: Model,
-    form: Form,
-    page: &mut [u8],
-    line: &mut [u16],
-    staging: &mut [u8],
-    store: &mut [u8],
-) -> Opened
-    requires top { (1 ≤ form.top.0) × (form.top.0 ≤ 128) }
-    requires sized { Sized (described model) form page.old line.old staging.old store.old }
-    ensures { given_opening result page.new line.new staging.new store.new
+#[tactic(auto, using(sheet::proofs::Emptying::line_emptied, sheet::proofs::Emptying::page_emptied, printer::proofs::Ready::store_emptied))]
+fn start(model: Model, form: Form, memory: &mut Memory<'_>) -> Opened
+    requires top { TopFits form }
+    requires sized { SizedIn model form memory.old }
+    ensures opened { opening_in result memory.new
         ≡ record { answer = Answer.Done; machine = opened model form } }
+    ensures lent { LentOn memory.old memory.new }
 {
-    blank(page);
-    empty(line);
-    blank(staging);
-    blank(store);
+    memory.page.fill(0);
+    memory.line.fill(0);
+    memory.staging.fill(0);
+    memory.store.fill(0);
     Opened {
         printer: new_printer(model, form),
         answer: Answer::Done,
@@ -46,47 +41,48 @@ fn start(
 }
 
 // Opens a job.
-pub fn open(
-    model: Model,
-    lines: usize,
-    spacing: usize,
-    page: &mut [u8],
-    line: &mut [u16],
-    staging: &mut [u8],
-    store: &mut [u8],
-    font: &[u8],
-) -> Opened
-    ensures { (p : Printer) → given_opening result page.new line.new staging.new store.new
-        ≡ opening model lines spacing font.now
-        (machine p page.old line.old staging.old store.old) }
+#[tactic(auto, using(protocol::proofs::Ways::open_refused, protocol::proofs::Ways::open_admitted))]
+pub fn open(model: Model, lines: usize, spacing: usize, memory: &mut Memory<'_>) -> Opened
+    ensures opened { (p : Printer) → opening_in result memory.new
+        ≡ opening model lines spacing memory.old.font.now (machine_in p memory.old) }
+    ensures lent { LentOn memory.old memory.new }
 {
-    let answer = admit(model, lines, spacing, page, line, staging, store, font);
+    let font = memory.font;
+    let answer = admit(
+        model,
+        lines,
+        spacing,
+        &mut *memory.page,
+        &mut *memory.line,
+        &mut *memory.staging,
+        &mut *memory.store,
+        font,
+    );
     if refusal(answer) {
         return unopened(model, answer);
     }
-    let form = new_form(lines, spacing);
-    start(model, form, page, line, staging, store)
+    start(model, new_form(lines, spacing), memory)
 }
 
 // Takes the bytes of a piece, up to one that has something to tell, or to the job's limit: runs of like bytes at one go, every other byte by a step.
-fn take_bytes(
-    p: Printer,
-    piece: &[u8],
-    page: &mut [u8],
-    line: &mut [u16],
-    staging: &mut [u8],
-    store: &mut [u8],
-    font: &[u8],
-) -> Fed
-    requires { Ready (edition_of p) (machine p page.old line.old staging.old store.old) × (length font.now ≡ store_size) }
-    ensures { given_feeding result page.new line.new staging.new store.new
-        ≡ take_bytes (edition_of p) font.now piece.now
-        (machine p page.old line.old staging.old store.old) }
+fn take_bytes(p: Printer, piece: &[u8], memory: &mut Memory<'_>) -> Fed
+    requires { Ready (edition_of p) (machine_in p memory.old) × (length memory.old.font.now ≡ store_size) }
+    ensures fed { feeding_in result memory.new
+        ≡ take_bytes (edition_of p) memory.old.font.now piece.now (machine_in p memory.old) }
+    ensures lent { LentOn memory.old memory.new }
 {
     let mut q = p;
     let mut i = 0;
     while i < piece.len() {
-        let ran = run(q, &piece[i..], line, staging, store, font);
+        let font = memory.font;
+        let ran = run(
+            q,
+            &piece[i..],
+            &mut *memory.line,
+            &mut *memory.staging,
+            &mut *memory.store,
+            font,
+        );
         let after = ran.printer;
         let at = i + ran.taken;
         if at == piece.len() {
@@ -95,9 +91,8 @@ fn take_bytes(
         if after.job == JOB_LIMIT {
             return given(after, Answer::JobFull, at);
         }
-        let s = step(after, piece[at], page, line, staging, store, font);
-        let event = s.event;
-        if !is_quiet(event) {
+        let s = step(after, piece[at], memory);
+        if !is_quiet(s.event) {
             return answer_to(s, at);
         }
         q = s.printer;
@@ -107,63 +102,51 @@ fn take_bytes(
 }
 
 // Feeds a piece of the job.
-pub fn feed(
-    p: Printer,
-    piece: &[u8],
-    page: &mut [u8],
-    line: &mut [u16],
-    staging: &mut [u8],
-    store: &mut [u8],
-    font: &[u8],
-) -> Fed
-    ensures { given_feeding result page.new line.new staging.new store.new
-        ≡ feeding (edition_of p) font.now piece.now
-        (machine p page.old line.old staging.old store.old) }
+#[tactic(auto, using(protocol::proofs::Ways::feed_misfit), unfolding(protocol::specs::Calls::feeding, printer::specs::Sound::sound, printer::specs::Sound::form_sound, sheet::specs::Form::lines_allowed, sheet::specs::Edition::lp2, sheet::specs::Edition::dg6215))]
+pub fn feed(p: Printer, piece: &[u8], memory: &mut Memory<'_>) -> Fed
+    ensures fed { feeding_in result memory.new
+        ≡ feeding (edition_of p) memory.old.font.now piece.now (machine_in p memory.old) }
+    ensures lent { LentOn memory.old memory.new }
 {
-    let model = p.model;
-    let form = p.form;
     // In two parts, each small enough to be compiled into the call.
-    if !form_sound(model, form) {
+    if !form_sound(p.model, p.form) {
         return given(p, Answer::Unsound, 0);
     }
     if !rest_sound(p) {
         return given(p, Answer::Unsound, 0);
     }
-    let fitting = fit(model, form, page, line, staging, store, font);
-    match fitting {
-        Fit::Wrong(lent) => Fed {
-            printer: p,
-            answer: Answer::Misfit(lent),
-            taken: 0,
-        },
-        Fit::Right => take_bytes(p, piece, page, line, staging, store, font),
+    let font = memory.font;
+    match fit(
+        p.model,
+        p.form,
+        &mut *memory.page,
+        &mut *memory.line,
+        &mut *memory.staging,
+        &mut *memory.store,
+        font,
+    ) {
+        Err(lent) => given(p, Answer::Misfit(lent), 0),
+        Ok(()) => take_bytes(p, piece, memory),
     }
 }
 
 // Offers the rest of a piece of which so many bytes were taken; the count that comes back is the piece's. Of a count past the piece's end the rest is empty.
-pub fn offer(
-    p: Printer,
-    piece: &[u8],
-    taken: usize,
-    page: &mut [u8],
-    line: &mut [u16],
-    staging: &mut [u8],
-    store: &mut [u8],
-    font: &[u8],
-) -> Fed
-    ensures { given_feeding result page.new line.new staging.new store.new
-        ≡ more taken (feeding (edition_of p) font.now (drop taken piece.now)
-        (machine p page.old line.old staging.old store.old)) }
+#[tactic(auto, using(crate::proofs::Offering::rest_fits, crate::proofs::Offering::none_taken))]
+pub fn offer(p: Printer, piece: &[u8], taken: usize, memory: &mut Memory<'_>) -> Fed
+    ensures fed { feeding_in result memory.new
+        ≡ more taken (feeding (edition_of p) memory.old.font.now (drop taken piece.now) (machine_in p memory.old)) }
+    ensures lent { LentOn memory.old memory.new }
 {
     if taken < piece.len() {
-        let f = feed(p, &piece[taken..], page, line, staging, store, font);
+        let f = feed(p, &piece[taken..], memory);
         return counted(f, taken);
     }
-    let f = feed(p, &piece[..0], page, line, staging, store, font);
+    let f = feed(p, &[], memory);
     counted(f, taken)
 }
 
 // The bytes of the page that the next feeding takes, 0 where the state is unsound.
+#[tactic(auto, using(printer::proofs::Soundness::sound_facts, sheet::proofs::Editions::described_bounded), unfolding(protocol::specs::Calls::page_due, printer::specs::Sound::sound, printer::specs::Sound::form_sound, sheet::specs::Form::lines_allowed, sheet::specs::Edition::lp2, sheet::specs::Edition::dg6215, sheet::specs::Form::page_bytes, sheet::specs::Form::form_rows, sheet::specs::Form::rows_per_line))]
 pub fn page_due(p: Printer) -> usize
     ensures value { result ≡ page_due (edition_of p) p }
     ensures upper_bound { result ≤ longest_page }
@@ -171,9 +154,7 @@ pub fn page_due(p: Printer) -> usize
     if !sound(p) {
         return 0;
     }
-    let model = p.model;
-    let form = p.form;
-    page_bytes(model, form)
+    page_bytes(p.model, p.form)
 }
 
 // Closes a job.

@@ -6,8 +6,7 @@ use mathlib.Core.Path.{◌≡◌, refl, ap, sym, ◌∙◌}
 use native.Mathlib.Omega.{arith}
 use borrow.Author.Tests.{le-ltb, leb-true, ltb-false, ne_eqb}
 use lib.Dec.{leb, ltb}
-use Rattle.printer.specs.declared.Setting.{Setting}
-use Rattle.printer.specs.declared.Setting.TheVariants.{Omitted, Given}
+use Rattle.std.specs.Prelude.{None, Option, Some}
 use Rattle.printer.specs.Brackets.{capped, continues, with_digit}
 
 -- some decimal digits behind a number
@@ -16,7 +15,7 @@ decimal n [] = n
 decimal n (d ∷ ds) = decimal (10 * n + d) ds
 
 -- some digits read
-unfoldable pub digits : List ℕ → Setting → Setting
+unfoldable pub digits : List ℕ → Option ℕ → Option ℕ
 digits [] s = s
 digits (d ∷ ds) s = digits ds (with_digit d s)
 
@@ -27,15 +26,15 @@ one_digit n d false q =
     let l : 9999 ≤ n = ltb-false _ _ q in
     rw (le-ltb (10 * n + d) 9999 (omega arith), le-ltb (10 * 9999 + d) 9999 (omega arith))
 
-pub digits_from : (ds : List ℕ) (n : ℕ) → digits ds (Given (capped n)) ≡ Given (capped (decimal n ds))
+pub digits_from : (ds : List ℕ) (n : ℕ) → digits ds (Some (capped n)) ≡ Some (capped (decimal n ds))
 unfolding digits decimal with_digit
 digits_from [] n = refl
-digits_from (d ∷ ds) n = ap (λ (k : ℕ). digits ds (Given k)) (one_digit n d (ltb n 9999) refl) ∙ digits_from ds (10 * n + d)
+digits_from (d ∷ ds) n = ap (λ (k : ℕ). digits ds (Some k)) (one_digit n d (ltb n 9999) refl) ∙ digits_from ds (10 * n + d)
 
 -- THE LAW: digits 0 to 9 are read as their decimal number, up to 9,999
-pub digits_count : (d : ℕ) (ds : List ℕ) → d < 9999 → digits (d ∷ ds) Omitted ≡ Given (capped (decimal d ds))
+pub digits_count : (d : ℕ) (ds : List ℕ) → d < 9999 → digits (d ∷ ds) None ≡ Some (capped (decimal d ds))
 unfolding digits with_digit
-digits_count d ds h = ap (λ (k : ℕ). digits ds (Given k)) (sym (below d h)) ∙ digits_from ds d
+digits_count d ds h = ap (λ (k : ℕ). digits ds (Some k)) (sym (below d h)) ∙ digits_from ds d
   where
     below : (k : ℕ) → k < 9999 → capped k ≡ k
     below k l = go (ltb k 9999) refl

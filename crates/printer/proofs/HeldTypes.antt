@@ -8,6 +8,7 @@ use native.Mathlib.Omega.{arith}
 use lib.ListN.{length}
 use mir.Syntax.{Width, w8, w16}
 use mir.Val.{Val, bits, vint}
+use denote.Builtin.{u16}
 use denote.Array.{each}
 use denote.Laws.{Is}
 use denote.Plain.{UInt}
@@ -29,8 +30,7 @@ use Rattle.printer.specs.declared.Pending.{Pending}
 use Rattle.printer.specs.declared.Pending.TheVariants.{Nothing, Escape, Tabs, Reset, Select, SelectLow, CountHigh, CountLow, AddressHigh}
 use Rattle.printer.specs.declared.Pending.TheVariants.{AddressLow, Payload, Bracket}
 use Rattle.printer.specs.declared.Printer.{Printer}
-use Rattle.printer.specs.declared.Setting.{Setting}
-use Rattle.printer.specs.declared.Setting.TheVariants.{Given, Omitted}
+use Rattle.std.specs.Prelude.{None, Option, Some}
 use Rattle.printer.specs.declared.Settings.{Settings}
 use Rattle.printer.specs.declared.Style.{Style}
 use Rattle.printer.specs.declared.TabSet.{TabSet}
@@ -39,7 +39,7 @@ use Rattle.printer.specs.contracts.Head as head
 use Rattle.printer.specs.contracts.Load as load
 use Rattle.printer.specs.contracts.Pending as pending
 use Rattle.printer.specs.contracts.Printer as printer
-use Rattle.printer.specs.contracts.Setting as setting
+use Rattle.std.specs.contracts.option.Option as option
 use Rattle.printer.specs.contracts.Settings as settings
 use Rattle.printer.specs.contracts.Style as style
 use Rattle.printer.specs.contracts.TabSet as tabs
@@ -57,13 +57,13 @@ load_held : (l : Load) → Typed load.the_row l → HeldLoad l
 load_held l (vs, (vss, (row, ((c, count), ((a, address), ((t, taken), ((s, sum), end))))))) =
     record { count = count; address = address; taken = taken; sum = sum }
 
-setting_typed : (s : Setting) → HeldSetting s → Typed setting.the_row s
-setting_typed Omitted h = (_, (_, (refl, (_, (refl, tt)))))
-setting_typed (Given n) h = (_, (_, (refl, (_, (refl, ((refl, h), tt))))))
+setting_typed : (s : Option ℕ) → HeldSetting s → Typed (option.the_row u16) s
+setting_typed None h = (_, (_, (refl, (_, (refl, tt)))))
+setting_typed (Some n) h = (_, (_, (refl, (_, (refl, ((refl, h), tt))))))
 
-setting_held : (s : Setting) → Typed setting.the_row s → HeldSetting s
-setting_held Omitted h = tt
-setting_held (Given n) (vs, (us, (is, (vss, (row, ((p, below), end)))))) = below
+setting_held : (s : Option ℕ) → Typed (option.the_row u16) s → HeldSetting s
+setting_held None h = tt
+setting_held (Some n) (vs, (us, (is, (vss, (row, ((p, below), end)))))) = below
 
 settings_typed : (s : Settings) → HeldSettings s → Typed settings.the_row s
 settings_typed s h =

@@ -1,6 +1,7 @@
 -- What the rules leave alone: no command touches the model, the count of the job or what is pending, and no byte touches the form but one that
 -- finishes a page.
 use Prim.Native.Nat.{ℕ, ◌+◌}
+use Rattle.sheet.specs.declared.Line.{Line}
 use mathlib.Core.Bool.{Bool, true, false, cond}
 use mathlib.Core.List.{List, [], ◌∷◌}
 use mathlib.Core.Path.{◌∙◌, ◌≡◌, ap, refl, subst}
@@ -17,8 +18,7 @@ use Rattle.printer.specs.declared.Pending.{Pending}
 use Rattle.printer.specs.declared.Pending.TheVariants.{Nothing, Escape, Tabs, Reset, Select, SelectLow, CountHigh, CountLow, AddressHigh}
 use Rattle.printer.specs.declared.Pending.TheVariants.{AddressLow, Payload, Bracket}
 use Rattle.printer.specs.declared.Printer.{Printer}
-use Rattle.printer.specs.declared.NextTab.{NextTab}
-use Rattle.printer.specs.declared.NextTab.TheVariants.{Tabbed, Untabbed}
+use Rattle.std.specs.Prelude.{None, Option, Some}
 use Rattle.printer.specs.Alone.{alone, text_byte}
 use Rattle.printer.specs.Bytes.{act, bracket_byte, first_byte, payload_byte, run, second_byte, step, tab_byte, text_escape}
 use Rattle.printer.specs.Commands.{Command, bracketed, byte, escaped, loading, obey, resetting, selecting, set_tabs, tab_list}
@@ -29,8 +29,6 @@ use Rattle.printer.specs.Plotting.{plot, plot_byte, plot_escape}
 use Rattle.printer.specs.Printing.{print}
 use Rattle.printer.specs.Steps.{Step, finished, noted, quiet, tell, tell_step}
 use Rattle.printer.specs.Terminators.{carriage_return, form_feed, newline, strike, tab_to, vertical_tab}
-use Rattle.printer.specs.declared.Setting.{Setting}
-use Rattle.printer.specs.declared.Setting.TheVariants.{Given, Omitted}
 use Rattle.printer.specs.declared.Settings.{Settings}
 
 -- what no command touches
@@ -50,11 +48,11 @@ keeps_cond true s u h h' = h
 keeps_cond false s u h h' = h'
 
 module _ (e : Edition) {k : Kept} where
-  tab_to_keeps : (below lowest : NextTab) (m : Machine) → kept m ≡ k → Keeps k (tab_to e below lowest m)
+  tab_to_keeps : (below lowest : Option Line) (m : Machine) → kept m ≡ k → Keeps k (tab_to e below lowest m)
   unfolding tab_to carriage_return strike
-  tab_to_keeps (Tabbed n) lowest m h = h
-  tab_to_keeps Untabbed (Tabbed n) m h = h
-  tab_to_keeps Untabbed Untabbed m h = h
+  tab_to_keeps (Some n) lowest m h = h
+  tab_to_keeps None (Some n) m h = h
+  tab_to_keeps None None m h = h
 
   tell_keeps : (v : Event) (m : Machine) → kept m ≡ k → kept (tell e v m).machine ≡ k
   unfolding tell
@@ -75,15 +73,15 @@ module _ (e : Edition) {k : Kept} where
   set_tabs_keeps [] place m h = h
   set_tabs_keeps (n ∷ ns) place m h = set_tabs_keeps ns (place + 1) _ (tell_step_keeps (tab_item n place m) (tab_item_keeps n place m h))
 
-  style_keeps : (s : Setting) (place : ℕ) (m : Machine) → kept m ≡ k → Keeps k (style e s place m)
+  style_keeps : (s : Option ℕ) (place : ℕ) (m : Machine) → kept m ≡ k → Keeps k (style e s place m)
   unfolding style repitched in_turn
-  style_keeps Omitted place m h = h
-  style_keeps (Given v) place m h = search keeps_cond depth 10
+  style_keeps None place m h = h
+  style_keeps (Some v) place m h = search keeps_cond depth 10
 
-  respace_keeps : (s : Setting) (place : ℕ) (m : Machine) → kept m ≡ k → Keeps k (respace e s place m)
+  respace_keeps : (s : Option ℕ) (place : ℕ) (m : Machine) → kept m ≡ k → Keeps k (respace e s place m)
   unfolding respace reform reformed
-  respace_keeps Omitted place m h = h
-  respace_keeps (Given v) place m h = search keeps_cond depth 10
+  respace_keeps None place m h = h
+  respace_keeps (Some v) place m h = search keeps_cond depth 10
 
   bracket_keeps : (s : Settings) (last place : ℕ) (m : Machine) → kept m ≡ k → Keeps k (bracket e s last place m)
   unfolding bracket resize reform reformed
@@ -133,23 +131,23 @@ ruleset counting = (counts_cond, counts_quiet, counts_noted, counts_finished)
 abbrev Counted : Machine → Step → Type 0
 Counted m s = Counts m.printer.model m.printer.form m.printer.job s
 
-tab_to_counts : (e : Edition) (below lowest : NextTab) (m : Machine) → Counted m (tab_to e below lowest m)
+tab_to_counts : (e : Edition) (below lowest : Option Line) (m : Machine) → Counted m (tab_to e below lowest m)
 unfolding tab_to carriage_return strike
-tab_to_counts e (Tabbed n) lowest m = record { model = refl; form = refl; job = refl }
-tab_to_counts e Untabbed (Tabbed n) m = record { model = refl; form = tt; job = refl }
-tab_to_counts e Untabbed Untabbed m = record { model = refl; form = refl; job = refl }
+tab_to_counts e (Some n) lowest m = record { model = refl; form = refl; job = refl }
+tab_to_counts e None (Some n) m = record { model = refl; form = tt; job = refl }
+tab_to_counts e None None m = record { model = refl; form = refl; job = refl }
 
 module _ (e : Edition) {w : Model} {f : Form} {j : ℕ} (place : ℕ) (m : Machine) (p : m.printer.model ≡ w) (q : m.printer.form ≡ f)
     (r : m.printer.job ≡ j) where
-  style_counts : (s : Setting) → Counts w f j (style e s place m)
+  style_counts : (s : Option ℕ) → Counts w f j (style e s place m)
   unfolding style repitched in_turn
-  style_counts Omitted = counts_noted m p q r
-  style_counts (Given v) = search counting depth 10
+  style_counts None = counts_noted m p q r
+  style_counts (Some v) = search counting depth 10
 
-  respace_counts : (s : Setting) → Counts w f j (respace e s place m)
+  respace_counts : (s : Option ℕ) → Counts w f j (respace e s place m)
   unfolding respace reform reformed
-  respace_counts Omitted = counts_noted m p q r
-  respace_counts (Given v) = search counting depth 10
+  respace_counts None = counts_noted m p q r
+  respace_counts (Some v) = search counting depth 10
 
 act_counts : (e : Edition) (font : List ℕ) (q : Pending) (b here : ℕ) (m : Machine) → Counted m (act e font q b here m)
 unfolding act first_byte second_byte text_escape tab_byte payload_byte bracket_byte alone text_byte print newline vertical_tab form_feed

@@ -1,4 +1,5 @@
 -- What is true of the printer.
+pub mod Lending
 pub mod Table
 pub mod Appending
 pub mod Keeping

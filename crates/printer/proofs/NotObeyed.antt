@@ -1,5 +1,6 @@
 -- A byte that is not obeyed changes nothing: where a byte gives a note, it is counted, and its command is ended or its tab list goes on.
 use Prim.Native.Nat.{ℕ, ◌+◌}
+use Rattle.sheet.specs.declared.Line.{Line}
 use mathlib.Core.Bool.{Bool, true, false, cond, not}
 use mathlib.Core.List.{List}
 use mathlib.Core.Path.{◌≡◌, refl, subst, sym, ◌∙◌}
@@ -9,8 +10,7 @@ use Rattle.printer.specs.Brackets.{bracket, reform, resize, respace, style}
 use Rattle.printer.specs.declared.Event.{Event}
 use Rattle.printer.specs.declared.Event.TheVariants.{Quiet, Finished, Noted}
 use Rattle.printer.specs.declared.Fault.{Fault}
-use Rattle.printer.specs.declared.NextTab.{NextTab}
-use Rattle.printer.specs.declared.NextTab.TheVariants.{Tabbed, Untabbed}
+use Rattle.std.specs.Prelude.{None, Option, Some}
 use Rattle.printer.specs.declared.Pending.{Pending}
 use Rattle.printer.specs.declared.Pending.TheVariants.{Nothing, Escape, Tabs, Reset, Select, SelectLow, CountHigh, CountLow, AddressHigh}
 use Rattle.printer.specs.declared.Pending.TheVariants.{AddressLow, Payload, Bracket}
@@ -24,8 +24,6 @@ use Rattle.printer.specs.Plotting.{plot, plot_byte, plot_escape}
 use Rattle.printer.specs.Printing.{print}
 use Rattle.printer.specs.Steps.{Step}
 use Rattle.printer.specs.Terminators.{carriage_return, form_feed, newline, tab_to, vertical_tab}
-use Rattle.printer.specs.declared.Setting.{Setting}
-use Rattle.printer.specs.declared.Setting.TheVariants.{Given, Omitted}
 use Rattle.printer.specs.declared.Settings.{Settings}
 
 -- what is asked of a byte's event and of the machine after it, by the machine m before it: of a note alone
@@ -42,11 +40,11 @@ passes_cond : (m : Machine) (t : Bool) (s u : Step) → Passes m s → Passes m 
 passes_cond m true s u h k = h
 passes_cond m false s u h k = k
 
-tab_to_passes : (m : Machine) (e : Edition) (below lowest : NextTab) (n : Machine) → Passes m (tab_to e below lowest n)
+tab_to_passes : (m : Machine) (e : Edition) (below lowest : Option Line) (n : Machine) → Passes m (tab_to e below lowest n)
 unfolding tab_to carriage_return
-tab_to_passes m e (Tabbed k) lowest n = tt
-tab_to_passes m e Untabbed (Tabbed k) n = tt
-tab_to_passes m e Untabbed Untabbed n = tt
+tab_to_passes m e (Some k) lowest n = tt
+tab_to_passes m e None (Some k) n = tt
+tab_to_passes m e None None n = tt
 
 -- the commands of ESC [ that look at one number
 module _ (e : Edition) (m : Machine) (place : ℕ) (all : Settings) where
@@ -56,15 +54,15 @@ module _ (e : Edition) (m : Machine) (place : ℕ) (all : Settings) where
   abbrev whole_here : Machine
   whole_here = with_pending Nothing (with_job (m.printer.job + 1) m)
 
-  style_passes : (s : Setting) → Passes begun_here (style e s place whole_here)
+  style_passes : (s : Option ℕ) → Passes begun_here (style e s place whole_here)
   unfolding style repitched in_turn passed_over note_place left_pending first_place ends_command
-  style_passes Omitted = (refl, refl, refl)
-  style_passes (Given v) = search passes_cond depth 10
+  style_passes None = (refl, refl, refl)
+  style_passes (Some v) = search passes_cond depth 10
 
-  respace_passes : (s : Setting) → Passes begun_here (respace e s place whole_here)
+  respace_passes : (s : Option ℕ) → Passes begun_here (respace e s place whole_here)
   unfolding respace reform passed_over note_place left_pending first_place ends_command
-  respace_passes Omitted = (refl, refl, refl)
-  respace_passes (Given v) = search passes_cond depth 10
+  respace_passes None = (refl, refl, refl)
+  respace_passes (Some v) = search passes_cond depth 10
 
 act_passes : (e : Edition) (font : List ℕ) (b : ℕ) (m : Machine) (q : Pending)
     → Passes (with_pending q m) (act e font q b m.printer.job (with_pending q (with_job (m.printer.job + 1) m)))

@@ -1,5 +1,6 @@
 -- What a byte does to the page: it strikes the lines that the byte strikes, and nothing else.
 use Prim.Native.Nat.{ℕ, ◌+◌}
+use Rattle.sheet.specs.declared.Line.{Line}
 use mathlib.Core.Bool.{Bool, true, false, cond, not, ◌&&◌, ◌||◌, and-eq-true_iff, true≢false}
 use mathlib.Core.List.{List, [], ◌∷◌}
 use mathlib.Core.Path.{◌∙◌, ◌≡◌, ap, refl, sym}
@@ -15,8 +16,7 @@ use Rattle.printer.specs.Brackets.{bracket, reform, reformed, resize, respace, s
 use Rattle.printer.specs.declared.Pending.{Pending}
 use Rattle.printer.specs.declared.Pending.TheVariants.{Nothing, Escape, Tabs, Reset, Select, SelectLow, CountHigh, CountLow, AddressHigh}
 use Rattle.printer.specs.declared.Pending.TheVariants.{AddressLow, Payload, Bracket}
-use Rattle.printer.specs.declared.NextTab.{NextTab}
-use Rattle.printer.specs.declared.NextTab.TheVariants.{Tabbed, Untabbed}
+use Rattle.std.specs.Prelude.{None, Option, Some}
 use Rattle.printer.specs.Alone.{alone, prints, text_byte}
 use Rattle.printer.specs.Bytes.{act, bracket_byte, first_byte, payload_byte, second_byte, step, tab_byte, text_escape}
 use Rattle.printer.specs.Downloads.{download}
@@ -27,8 +27,6 @@ use Rattle.printer.specs.Printing.{print}
 use Rattle.printer.specs.Steps.{Step}
 use Rattle.printer.specs.Strikes.{Strike, idle, in_progress, strike_all, strikes, strikes_of, terminator}
 use Rattle.printer.specs.Terminators.{carriage_return, form_feed, newline, strike, tab_to, vertical_tab}
-use Rattle.printer.specs.declared.Setting.{Setting}
-use Rattle.printer.specs.declared.Setting.TheVariants.{Given, Omitted}
 
 -- a step that leaves a page
 abbrev Leaves : List ℕ → Step → Type 0
@@ -47,11 +45,11 @@ module _ (e : Edition) (m : Machine) where
   abbrev inked : List ℕ
   inked = struck e m.page m.line m.printer.head.row m.printer.style.pitch
 
-  tab_to_page : (below lowest : NextTab) → Leaves inked (tab_to e below lowest m)
+  tab_to_page : (below lowest : Option Line) → Leaves inked (tab_to e below lowest m)
   unfolding tab_to carriage_return strike
-  tab_to_page (Tabbed n) lowest = refl
-  tab_to_page Untabbed (Tabbed n) = refl
-  tab_to_page Untabbed Untabbed = refl
+  tab_to_page (Some n) lowest = refl
+  tab_to_page None (Some n) = refl
+  tab_to_page None None = refl
 
   -- the page after a byte, by whether it strikes the line
   abbrev left_by : Bool → List ℕ
@@ -115,15 +113,15 @@ module _ (e : Edition) (font : List ℕ) (b here : ℕ) (m : Machine) where
   begins false q = refl
   begins true q = rw (eqb-true b 0x1b q)
 
-  style_page : (s : Setting) (place : ℕ) (n : Machine) → n.page ≡ m.page → Leaves m.page (style e s place n)
+  style_page : (s : Option ℕ) (place : ℕ) (n : Machine) → n.page ≡ m.page → Leaves m.page (style e s place n)
   unfolding style repitched in_turn
-  style_page Omitted place n h = h
-  style_page (Given v) place n h = search leaves_cond depth 10
+  style_page None place n h = h
+  style_page (Some v) place n h = search leaves_cond depth 10
 
-  respace_page : (s : Setting) (place : ℕ) (n : Machine) → n.page ≡ m.page → Leaves m.page (respace e s place n)
+  respace_page : (s : Option ℕ) (place : ℕ) (n : Machine) → n.page ≡ m.page → Leaves m.page (respace e s place n)
   unfolding respace reform reformed
-  respace_page Omitted place n h = h
-  respace_page (Given v) place n h = search leaves_cond depth 10
+  respace_page None place n h = h
+  respace_page (Some v) place n h = search leaves_cond depth 10
 
   act_page : (q : Pending) → Leaves (left_by e m (idle q && not m.printer.head.plotting && terminator b)) (act e font q b here m)
   unfolding act first_byte second_byte text_escape tab_byte payload_byte bracket_byte bracket resize reform reformed alone escape repitched in_turn

@@ -10,8 +10,7 @@ use lib.ListN.{get_or, replicate, set, take}
 use lib.Seq.{get_or-set_other}
 use Rattle.sheet.specs.declared.Line.{Line}
 use Rattle.sheet.specs.Form.{next_line}
-use Rattle.printer.specs.declared.NextTab.{NextTab}
-use Rattle.printer.specs.declared.NextTab.TheVariants.{Tabbed, Untabbed}
+use Rattle.std.specs.Prelude.{None, Option, Some}
 use Rattle.printer.specs.declared.TabSet.{TabSet}
 use Rattle.printer.specs.Tabs.{line_tabs, no_tabs, tabs_through, with_tab, word_tabs}
 use Rattle.printer.specs.Terminators.{first_tab}
@@ -54,9 +53,9 @@ taken-inside (suc n) (x ∷ xs) zero t = omega arith
 taken-inside (suc n) (x ∷ xs) (suc i) t = omega (arith, taken-inside n xs i t)
 
 -- a stop is a line within the margins
-abbrev pub Inside : ℕ → ℕ → NextTab → Type 0
-Inside top bottom (Tabbed n) = (top ≤ n.0) × (n.0 ≤ bottom)
-Inside top bottom Untabbed = Unit {0}
+abbrev pub Inside : ℕ → ℕ → Option Line → Type 0
+Inside top bottom (Some n) = (top ≤ n.0) × (n.0 ≤ bottom)
+Inside top bottom None = Unit {0}
 
 pub first_tab-inside : (top bottom : ℕ) (n : Line) (tabs : List Bool) → top ≤ n.0 → ((i : ℕ) → T (get_or tabs i false) → n.0 + i ≤ bottom)
     → Inside top bottom (first_tab n tabs)

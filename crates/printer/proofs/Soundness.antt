@@ -11,8 +11,7 @@ use lib.Seq.{get_or-drop}
 use Rattle.sheet.specs.declared.Form.{Form}
 use Rattle.sheet.specs.Edition.{Edition}
 use Rattle.sheet.specs.Form.{below_top, fits, lines_allowed, margins_allowed}
-use Rattle.printer.specs.declared.Begun.{Begun}
-use Rattle.printer.specs.declared.Begun.TheVariants.{Nowhere, At}
+use Rattle.std.specs.Prelude.{None, Option, Some}
 use Rattle.printer.specs.declared.Head.{Head}
 use Rattle.printer.specs.declared.Pending.{Pending}
 use Rattle.printer.specs.declared.Pending.TheVariants.{Nothing, Escape, Tabs, Reset, Select, SelectLow, CountHigh, CountLow, AddressHigh}
@@ -146,13 +145,13 @@ load_tested e (AddressLow place count high) k = refl
 load_tested e (Payload place load) k = le-leb _ _ k
 load_tested e (Bracket place settings) k = k
 
-place_facts : (job : ℕ) (b : Begun) → place_sound job b ≡ true → SoundPlace job b
-place_facts job Nowhere r = tt
-place_facts job (At place) r = ltb-true _ _ r
+place_facts : (job : ℕ) (b : Option ℕ) → place_sound job b ≡ true → SoundPlace job b
+place_facts job None r = tt
+place_facts job (Some place) r = ltb-true _ _ r
 
-place_tested : (job : ℕ) (b : Begun) → SoundPlace job b → place_sound job b ≡ true
-place_tested job Nowhere k = refl
-place_tested job (At place) k = lt-ltb _ _ k
+place_tested : (job : ℕ) (b : Option ℕ) → SoundPlace job b → place_sound job b ≡ true
+place_tested job None k = refl
+place_tested job (Some place) k = lt-ltb _ _ k
 
 -- a state is sound exactly where its facts hold
 module _ (e : Edition) (p : Printer) where

@@ -26,14 +26,11 @@ use Rattle.printer.specs.Facts.{Sound, SoundForm}
 use Rattle.printer.specs.declared.Event.{Event}
 use Rattle.printer.specs.declared.Event.TheVariants.{Finished, Noted, Quiet}
 use Rattle.printer.specs.declared.Load.{Load}
-use Rattle.printer.specs.declared.NextTab.{NextTab}
-use Rattle.printer.specs.declared.NextTab.TheVariants.{Tabbed, Untabbed}
+use Rattle.std.specs.Prelude.{None, Option, Some}
 use Rattle.printer.specs.declared.Pending.{Pending}
 use Rattle.printer.specs.declared.Pending.TheVariants.{Nothing, Escape, Tabs, Reset, Select, SelectLow, CountHigh, CountLow, AddressHigh}
 use Rattle.printer.specs.declared.Pending.TheVariants.{AddressLow, Payload, Bracket}
 use Rattle.printer.specs.declared.Printer.{Printer}
-use Rattle.printer.specs.declared.Setting.{Setting}
-use Rattle.printer.specs.declared.Setting.TheVariants.{Given, Omitted}
 use Rattle.printer.specs.declared.Settings.{Settings}
 use Rattle.printer.specs.declared.TabSet.{TabSet}
 use Rattle.printer.specs.Alone.{alone, text_byte}
@@ -89,10 +86,10 @@ capped_held n = go (ltb n most_kept) refl
     go true q = omega (arith, ltb-true n most_kept q)
     go false q = omega arith
 
-digit_held : (d : ℕ) (s : Setting) → d < 256 → HeldSetting (with_digit d s)
+digit_held : (d : ℕ) (s : Option ℕ) → d < 256 → HeldSetting (with_digit d s)
 unfolding with_digit
-digit_held d Omitted l = omega arith
-digit_held d (Given n) l = capped_held (10 * n + d)
+digit_held d None l = omega arith
+digit_held d (Some n) l = capped_held (10 * n + d)
 
 settings-cond : (t : Bool) (s u : Settings) → HeldSettings s → HeldSettings u → HeldSettings (cond t s u)
 settings-cond true s u h k = h
@@ -162,19 +159,19 @@ module _ (m : Machine) (h : Writes m) where
   unfolding escape tab_here repitched in_turn
   escape_writes e b place = search (writes_cond, tab_writes) depth 20
 
-  style_writes : (e : Edition) (s : Setting) (place : ℕ) → Writes (style e s place m).machine
+  style_writes : (e : Edition) (s : Option ℕ) (place : ℕ) → Writes (style e s place m).machine
   unfolding style repitched in_turn
-  style_writes e Omitted place = h
-  style_writes e (Given v) place = search writes_cond depth 10
+  style_writes e None place = h
+  style_writes e (Some v) place = search writes_cond depth 10
 
   reform_writes : (allowed : Bool) (f : Form) (place : ℕ) → Writes (reform allowed f place m).machine
   unfolding reform reformed
   reform_writes allowed f place = search (writes_cond, through_held) depth 10
 
-  respace_writes : (e : Edition) (s : Setting) (place : ℕ) → Writes (respace e s place m).machine
+  respace_writes : (e : Edition) (s : Option ℕ) (place : ℕ) → Writes (respace e s place m).machine
   unfolding respace
-  respace_writes e Omitted place = h
-  respace_writes e (Given v) place = search (writes_cond, reform_writes) depth 10
+  respace_writes e None place = h
+  respace_writes e (Some v) place = search (writes_cond, reform_writes) depth 10
 
   bracket_writes : (e : Edition) (s : Settings) (last place : ℕ) → Writes (bracket e s last place m).machine
   unfolding bracket resize
@@ -198,11 +195,11 @@ module _ (e : Edition) (m : Machine) (h : Writes m) where
       let page : AllBelow 256 (strike e r m).page = struck-below e m.page m.line m.printer.head.row m.printer.style.pitch h.page in
       search (empty_line-below e)
 
-  tab_to_writes : (below lowest : NextTab) → Writes (tab_to e below lowest m).machine
+  tab_to_writes : (below lowest : Option Line) → Writes (tab_to e below lowest m).machine
   unfolding tab_to carriage_return
-  tab_to_writes (Tabbed n) lowest = strike_writes _
-  tab_to_writes Untabbed (Tabbed n) = strike_writes _
-  tab_to_writes Untabbed Untabbed = strike_writes _
+  tab_to_writes (Some n) lowest = strike_writes _
+  tab_to_writes None (Some n) = strike_writes _
+  tab_to_writes None None = strike_writes _
 
   print_writes : (font : List ℕ) (b place : ℕ) → Writes (print e font b place m).machine
   unfolding print entered

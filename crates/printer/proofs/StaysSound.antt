@@ -23,18 +23,13 @@ use Rattle.sheet.proofs.Struck.{length-struck}
 use Rattle.sheet.proofs.Units.{length-blank_page, length-empty_line, line-below_top, line-fits, line-from_top, line-inside, lower-below_top}
 use Rattle.glyph.specs.Entering.{or_in}
 use Rattle.glyph.proofs.Lengths.{length-enter, length-or_in}
-use Rattle.printer.specs.declared.Begun.{Begun}
-use Rattle.printer.specs.declared.Begun.TheVariants.{Nowhere, At}
+use Rattle.std.specs.Prelude.{None, Option, Some}
 use Rattle.printer.specs.declared.Load.{Load}
 use Rattle.printer.specs.declared.Pending.{Pending}
 use Rattle.printer.specs.declared.Pending.TheVariants.{Nothing, Escape, Tabs, Reset, Select, SelectLow, CountHigh, CountLow, AddressHigh}
 use Rattle.printer.specs.declared.Pending.TheVariants.{AddressLow, Payload, Bracket}
 use Rattle.printer.specs.declared.Printer.{Printer}
-use Rattle.printer.specs.declared.Setting.{Setting}
-use Rattle.printer.specs.declared.Setting.TheVariants.{Omitted, Given}
 use Rattle.printer.specs.declared.Settings.{Settings}
-use Rattle.printer.specs.declared.NextTab.{NextTab}
-use Rattle.printer.specs.declared.NextTab.TheVariants.{Tabbed, Untabbed}
 use Rattle.printer.specs.Alone.{alone, text_byte}
 use Rattle.printer.specs.Brackets.{at_top, bracket, continues, no_settings, only, reform}
 use Rattle.printer.specs.Brackets.{reformed, resize, resized, respace, respaced, setting_byte, style}
@@ -137,17 +132,17 @@ module _ {e : Edition} {m : Machine} (h : Ready e m) where
   unfolding carriage_return
   carriage_return_fine = search (fine, strike_ready, here_fits, here_below)
 
-  abbrev Stop : NextTab → Type 0
+  abbrev Stop : Option Line → Type 0
   Stop t = Inside form.top.0 form.bottom.0 t
 
-  line_ready : (n : Line) → Stop (Tabbed n) → Ready e (strike e (first_row form n) m)
+  line_ready : (n : Line) → Stop (Some n) → Ready e (strike e (first_row form n) m)
   line_ready n b = strike_ready _ (line-fits form n (omega (arith, h.printer.form.top, b.0)) b.1) (line-below_top form n b.0)
 
-  tab_to_fine : (below lowest : NextTab) → Stop below → Stop lowest → Fine e (tab_to e below lowest m)
+  tab_to_fine : (below lowest : Option Line) → Stop below → Stop lowest → Fine e (tab_to e below lowest m)
   unfolding tab_to
-  tab_to_fine (Tabbed n) lowest b l = fine_quiet (line_ready n b)
-  tab_to_fine Untabbed (Tabbed n) b l = fine_finished (line_ready n l)
-  tab_to_fine Untabbed Untabbed b l = carriage_return_fine
+  tab_to_fine (Some n) lowest b l = fine_quiet (line_ready n b)
+  tab_to_fine None (Some n) b l = fine_finished (line_ready n l)
+  tab_to_fine None None b l = carriage_return_fine
 
   vertical_tab_fine : Fine e (vertical_tab e m)
   unfolding vertical_tab
@@ -263,10 +258,10 @@ module _ {e : Edition} {m : Machine} (h : Ready e m) where
   unfolding reform
   reform_fine allowed f place k = fine_test (allowed && at_top m) _ _ (λ q. reformed_fine f (k ((and-eq-true_iff _ _).0 q).0)) (λ _. fine_noted h)
 
-  style_fine : Proper e → (s : Setting) (place : ℕ) → Fine e (style e s place m)
+  style_fine : Proper e → (s : Option ℕ) (place : ℕ) → Fine e (style e s place m)
   unfolding style
-  style_fine proper Omitted place = fine_noted h
-  style_fine proper (Given v) place =
+  style_fine proper None place = fine_noted h
+  style_fine proper (Some v) place =
       let any : (p : Pitch) (on : Bool) → Fine e (repitched e place m (set_elongated on (set_pitch p m))) =
       λ p on. repitched_fine proper p place _ (restyle_ready p on) in
       fine_cond (eqb v 0) _ _ (any Normal true)
@@ -294,10 +289,10 @@ module _ {e : Edition} {m : Machine} (h : Ready e m) where
         let k = h.printer.form in
         record { most = k.most; spacing = q; top = k.top; between = k.between; bottom = k.bottom; own = own _ }
 
-    respace_fine : (s : Setting) (place : ℕ) → Fine e (respace e s place m)
+    respace_fine : (s : Option ℕ) (place : ℕ) → Fine e (respace e s place m)
     unfolding respace spacing_allowed
-    respace_fine Omitted place = fine_noted h
-    respace_fine (Given v) place =
+    respace_fine None place = fine_noted h
+    respace_fine (Some v) place =
         fine_cond (eqb v 1) _ _ (reform_fine true _ place (λ _. respaced_sound 6 refl))
         (fine_cond (eqb v 2) _ _ (reform_fine true _ place (λ _. respaced_sound 8 refl)) (fine_noted h))
 
@@ -404,9 +399,9 @@ module _ {e : Edition} (proper : Proper e) (font : List ℕ) (b here : ℕ) (m :
       bracket_byte_fine h proper h.printer.load settings b place h.printer.place (text_mode h.printer refl)
 
 -- a command that began below the count of the job is below it still with one byte more
-counted_place : (job : ℕ) (b : Begun) → SoundPlace job b → SoundPlace (job + 1) b
-counted_place job Nowhere h = tt
-counted_place job (At place) h = omega arith
+counted_place : (job : ℕ) (b : Option ℕ) → SoundPlace job b → SoundPlace (job + 1) b
+counted_place job None h = tt
+counted_place job (Some place) h = omega arith
 
 module _ {e : Edition} {m : Machine} where
   counted : Ready e m → Ready e (with_job (m.printer.job + 1) m)

@@ -1,13 +1,11 @@
 -- The commands that ESC [ begins: print styles, the form's length and margins, its spacing. Document 02, #105.
-use Rattle.std.specs.Prelude.{ℕ, ◌+◌, ◌-◌, ◌*◌, Bool, true, false, cond, ◌&&◌, ◌||◌, List, [], ◌∷◌, eqb, leb, ltb}
+use Rattle.std.specs.Prelude.{ℕ, ◌+◌, ◌-◌, ◌*◌, Bool, true, false, cond, ◌&&◌, ◌||◌, List, [], ◌∷◌, eqb, leb, ltb, None, Option, Some}
 use Rattle.sheet.specs.declared.Form.{Form}
 use Rattle.sheet.specs.declared.Pitch.{Pitch}
 use Rattle.sheet.specs.declared.Pitch.TheVariants.{Normal, Compressed}
 use Rattle.sheet.specs.Edition.{Edition}
 use Rattle.sheet.specs.Form.{line, lines_allowed, margins_allowed, top_row}
 use Rattle.printer.specs.declared.Fault.TheVariants.{FormSetting, UnknownCommand, WrongBytes}
-use Rattle.printer.specs.declared.Setting.{Setting}
-use Rattle.printer.specs.declared.Setting.TheVariants.{Omitted, Given}
 use Rattle.printer.specs.declared.Settings.{Settings}
 use Rattle.printer.specs.Escapes.{repitched, set_elongated, set_pitch}
 use Rattle.printer.specs.Machine.{Machine, fresh_head, with_form, with_head, with_tabs}
@@ -20,7 +18,7 @@ continues b = (leb 0x30 b && leb b 0x39) || eqb b 0x3b
 
 -- nothing given yet
 abbrev pub no_settings : Settings
-no_settings = record { first = Omitted; second = Omitted; third = Omitted; semicolons = 0 }
+no_settings = record { first = None; second = None; third = None; semicolons = 0 }
 
 -- the largest number that is kept: all larger ones count as it, which no command takes
 abbrev pub most_kept : ℕ
@@ -30,9 +28,9 @@ abbrev pub capped : ℕ → ℕ
 capped n = cond (ltb n most_kept) n most_kept
 
 -- a decimal number with one digit more
-unfoldable pub with_digit : ℕ → Setting → Setting
-with_digit d Omitted = Given d
-with_digit d (Given n) = Given (capped (10 * n + d))
+unfoldable pub with_digit : ℕ → Option ℕ → Option ℕ
+with_digit d None = Some d
+with_digit d (Some n) = Some (capped (10 * n + d))
 
 -- a digit belongs to the number that the semicolons before it tell; behind a third it is read over
 unfoldable pub digit_read : ℕ → Settings → Settings
@@ -56,13 +54,13 @@ settings [] s = s
 settings (b ∷ bs) s = settings bs (setting_byte b s)
 
 -- the number of a command that takes one, and no semicolon
-unfoldable pub only : Settings → Setting
-only s = cond (eqb s.semicolons 0) s.first Omitted
+unfoldable pub only : Settings → Option ℕ
+only s = cond (eqb s.semicolons 0) s.first None
 
 -- an omitted number keeps its setting
-abbrev pub or_kept : Setting → ℕ → ℕ
-or_kept Omitted n = n
-or_kept (Given k) n = k
+abbrev pub or_kept : Option ℕ → ℕ → ℕ
+or_kept None n = n
+or_kept (Some k) n = k
 
 -- in place: a fresh line at the top margin's first row
 unfoldable pub at_top : Machine → Bool
@@ -95,9 +93,9 @@ module _ (e : Edition) where
   restyled pitch elongated place m = repitched e place m (set_elongated elongated (set_pitch pitch m))
 
   -- v w: the styles 0, 2, 4 and 6; any other, or none: note 46
-  unfoldable pub style : Setting → ℕ → Machine → Step
-  style Omitted place m = noted WrongBytes place m
-  style (Given v) place m =
+  unfoldable pub style : Option ℕ → ℕ → Machine → Step
+  style None place m = noted WrongBytes place m
+  style (Some v) place m =
       cond (eqb v 0) (restyled Normal true place m)
       (cond (eqb v 2) (restyled Compressed true place m)
       (cond (eqb v 4) (restyled Normal false place m)
@@ -111,9 +109,9 @@ module _ (e : Edition) where
       reform (ltb s.semicolons 3 && lines_allowed e f.lines && margins_allowed f) f place m
 
   -- 1 z, 2 z: 6 or 8 lines an inch; any other, or none: note 46
-  unfoldable pub respace : Setting → ℕ → Machine → Step
-  respace Omitted place m = noted WrongBytes place m
-  respace (Given v) place m =
+  unfoldable pub respace : Option ℕ → ℕ → Machine → Step
+  respace None place m = noted WrongBytes place m
+  respace (Some v) place m =
       cond (eqb v 1) (reform true (respaced 6 m.printer.form) place m)
       (cond (eqb v 2) (reform true (respaced 8 m.printer.form) place m)
       (noted WrongBytes place m))

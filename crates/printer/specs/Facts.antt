@@ -1,10 +1,8 @@
 -- What a sound state has, as facts; a law of `Soundness` says that a state has them exactly where `sound` holds.
-use Rattle.std.specs.Prelude.{ℕ, ◌+◌, ◌*◌, ◌≤◌, ◌<◌, Bool, true, false, ◌||◌, List, ◌≡◌, T, get_or}
+use Rattle.std.specs.Prelude.{ℕ, ◌+◌, ◌*◌, ◌≤◌, ◌<◌, Bool, true, false, ◌||◌, List, ◌≡◌, T, get_or, None, Option, Some}
 use Rattle.sheet.specs.declared.Form.{Form}
 use Rattle.sheet.specs.Edition.{Edition}
 use Rattle.sheet.specs.Form.{rows_per_line, spacing_allowed, top_row, unmargined}
-use Rattle.printer.specs.declared.Begun.{Begun}
-use Rattle.printer.specs.declared.Begun.TheVariants.{Nowhere, At}
 use Rattle.printer.specs.declared.Head.{Head}
 use Rattle.printer.specs.declared.Pending.{Pending}
 use Rattle.printer.specs.declared.Pending.TheVariants.{Nothing, Escape, Tabs, Reset, Select, SelectLow, CountHigh, CountLow, AddressHigh}
@@ -49,9 +47,9 @@ SoundLoad e (Payload place load) = load.taken ≤ load.count
 SoundLoad e (Bracket place settings) = e.brackets ≡ true
 
 -- a started command's place is below the job length
-abbrev pub SoundPlace : ℕ → Begun → Type 0
-SoundPlace job Nowhere = Unit {0}
-SoundPlace job (At place) = place < job
+abbrev pub SoundPlace : ℕ → Option ℕ → Type 0
+SoundPlace job None = Unit {0}
+SoundPlace job (Some place) = place < job
 
 -- plot mode holds only on a plot line, with no command begun but a lone ESC
 abbrev pub SoundPlot : Head → Pending → Type 0

@@ -1,13 +1,11 @@
 -- What memory can hold of the printer: the numbers that the types of the state have room for, and the memory lent.
-use Rattle.std.specs.Prelude.{ℕ, ◌^◌, ◌<◌, List}
+use Rattle.std.specs.Prelude.{ℕ, ◌^◌, ◌<◌, List, None, Option, Some}
 use Rattle.sheet.specs.Held.{HeldBytes, HeldColumns}
 use Rattle.printer.specs.declared.Load.{Load}
 use Rattle.printer.specs.declared.Pending.{Pending}
 use Rattle.printer.specs.declared.Pending.TheVariants.{Nothing, Escape, Tabs, Reset, Select, SelectLow, CountHigh, CountLow, AddressHigh}
 use Rattle.printer.specs.declared.Pending.TheVariants.{AddressLow, Payload, Bracket}
 use Rattle.printer.specs.declared.Printer.{Printer}
-use Rattle.printer.specs.declared.Setting.{Setting}
-use Rattle.printer.specs.declared.Setting.TheVariants.{Omitted, Given}
 use Rattle.printer.specs.declared.Settings.{Settings}
 use Rattle.printer.specs.declared.TabSet.{TabSet}
 use Rattle.printer.specs.Machine.{Machine}
@@ -20,9 +18,9 @@ pub record HeldLoad (l : Load) : Type 0 where
   pub sum : l.sum < 2 ^ 8
 
 -- a number of a command that ESC [ begins: a u16
-abbrev pub HeldSetting : Setting → Type 0
-HeldSetting Omitted = Unit {0}
-HeldSetting (Given n) = n < 2 ^ 16
+abbrev pub HeldSetting : Option ℕ → Type 0
+HeldSetting None = Unit {0}
+HeldSetting (Some n) = n < 2 ^ 16
 
 -- its numbers, and the semicolons, a u8
 pub record HeldSettings (s : Settings) : Type 0 where

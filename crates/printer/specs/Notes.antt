@@ -1,7 +1,5 @@
 -- A byte that is not obeyed. Document 01, "What a call gives back" and "Bytes outside plot mode".
-use Rattle.std.specs.Prelude.{ℕ, ◌+◌, Bool, true, false, cond, ◌≡◌}
-use Rattle.printer.specs.declared.Begun.{Begun}
-use Rattle.printer.specs.declared.Begun.TheVariants.{Nowhere, At}
+use Rattle.std.specs.Prelude.{ℕ, ◌+◌, Bool, true, false, cond, ◌≡◌, None, Option, Some}
 use Rattle.printer.specs.declared.Fault.{Fault}
 use Rattle.printer.specs.declared.Fault.TheVariants.{UnknownCommand, LineFull, Checksum, UnnamedControl, HighByte, OutOfTurn, WrongBytes}
 use Rattle.printer.specs.declared.Fault.TheVariants.{PlotLine, DownloadRange, TabLine, IllFormed, FormSetting}
@@ -51,9 +49,9 @@ unfoldable pub passed_over : Fault → Machine → Machine
 passed_over f m = with_pending (left_pending f m.printer.pending) (with_job (m.printer.job + 1) m)
 
 -- the place of a command's first byte, by where the pending command began; with none pending it is the place of the byte that stands `here`
-unfoldable pub first_place : Begun → ℕ → ℕ
-first_place Nowhere here = here
-first_place (At place) here = place
+unfoldable pub first_place : Option ℕ → ℕ → ℕ
+first_place None here = here
+first_place (Some place) here = place
 
 -- the place that a note carries: of the command's first byte, except inside a tab list, where it is the item's own
 unfoldable pub note_place : Fault → Printer → ℕ

@@ -1,11 +1,9 @@
 -- Which states are sound. Document 01, "What a call gives back". The job's length, and a download's count and address, are in range in every state that
 -- code can hold, by their types, u32 and u16; they need no test.
-use Rattle.std.specs.Prelude.{ℕ, Bool, true, false, not, ◌&&◌, ◌||◌, List, [], ◌∷◌, eqb, leb, ltb, drop}
+use Rattle.std.specs.Prelude.{ℕ, Bool, true, false, not, ◌&&◌, ◌||◌, List, [], ◌∷◌, eqb, leb, ltb, drop, None, Option, Some}
 use Rattle.sheet.specs.declared.Form.{Form}
 use Rattle.sheet.specs.Edition.{Edition}
 use Rattle.sheet.specs.Form.{below_top, fits, lines_allowed, margins_allowed, spacing_allowed, unmargined}
-use Rattle.printer.specs.declared.Begun.{Begun}
-use Rattle.printer.specs.declared.Begun.TheVariants.{Nowhere, At}
 use Rattle.printer.specs.declared.Head.{Head}
 use Rattle.printer.specs.declared.Pending.{Pending}
 use Rattle.printer.specs.declared.Pending.TheVariants.{Nothing, Escape, Tabs, Reset, Select, SelectLow, CountHigh, CountLow, AddressHigh}
@@ -14,19 +12,19 @@ use Rattle.printer.specs.declared.Printer.{Printer}
 use Rattle.printer.specs.Tabs.{line_tabs}
 
 -- where the pending command began: the place of its first byte
-abbrev pub begun : Pending → Begun
-begun Nothing = Nowhere
-begun (Escape place) = At place
-begun (Tabs place) = At place
-begun (Reset place) = At place
-begun (Select place) = At place
-begun (SelectLow place high) = At place
-begun (CountHigh place) = At place
-begun (CountLow place high) = At place
-begun (AddressHigh place count) = At place
-begun (AddressLow place count high) = At place
-begun (Payload place load) = At place
-begun (Bracket place settings) = At place
+abbrev pub begun : Pending → Option ℕ
+begun Nothing = None
+begun (Escape place) = Some place
+begun (Tabs place) = Some place
+begun (Reset place) = Some place
+begun (Select place) = Some place
+begun (SelectLow place high) = Some place
+begun (CountHigh place) = Some place
+begun (CountLow place high) = Some place
+begun (AddressHigh place count) = Some place
+begun (AddressLow place count high) = Some place
+begun (Payload place load) = Some place
+begun (Bracket place settings) = Some place
 
 -- L and the spacing are in range and the margins lie on the form; where the form can't change they are 1 and L
 unfoldable pub form_sound : Edition → Form → Bool
@@ -57,9 +55,9 @@ load_sound e (Payload place load) = leb load.taken load.count
 load_sound e (Bracket place settings) = e.brackets
 
 -- a started command's place is below the job length
-abbrev pub place_sound : ℕ → Begun → Bool
-place_sound job Nowhere = true
-place_sound job (At place) = ltb place job
+abbrev pub place_sound : ℕ → Option ℕ → Bool
+place_sound job None = true
+place_sound job (Some place) = ltb place job
 
 -- a fresh line is at column 0 and no plot line
 unfoldable pub fresh_sound : Head → Bool

@@ -1,12 +1,10 @@
 -- The line terminators. Document 01, "Bytes outside plot mode".
-use Rattle.std.specs.Prelude.{Bool, cond, List, [], ◌∷◌, drop, take}
+use Rattle.std.specs.Prelude.{Bool, cond, List, [], ◌∷◌, drop, take, None, Option, Some}
 use Rattle.sheet.specs.declared.Line.{Line}
 use Rattle.sheet.specs.declared.Row.{Row}
 use Rattle.sheet.specs.Dots.{struck}
 use Rattle.sheet.specs.Edition.{Edition}
 use Rattle.sheet.specs.Form.{empty_line, first_row, fits, line_of, lines_above, lines_through, lower, next_line, rows_per_line, top_row}
-use Rattle.printer.specs.declared.NextTab.{NextTab}
-use Rattle.printer.specs.declared.NextTab.TheVariants.{Tabbed, Untabbed}
 use Rattle.printer.specs.Machine.{Machine, fresh_head, with_head, with_line, with_page}
 use Rattle.printer.specs.Steps.{Step, finished, quiet}
 use Rattle.printer.specs.Tabs.{line_tabs}
@@ -16,9 +14,9 @@ abbrev pub current_line : Machine → Line
 current_line m = line_of m.printer.form m.printer.head.row
 
 -- the first tabbed line of those whose tabs are given, the first of them line n
-unfoldable pub first_tab : Line → List Bool → NextTab
-first_tab n [] = Untabbed
-first_tab n (t ∷ ts) = cond t (Tabbed n) (first_tab (next_line n) ts)
+unfoldable pub first_tab : Line → List Bool → Option Line
+first_tab n [] = None
+first_tab n (t ∷ ts) = cond t (Some n) (first_tab (next_line n) ts)
 
 module _ (e : Edition) where
   -- the line struck at the current row, its store zeroed, and the head on a fresh line at row r
@@ -42,10 +40,10 @@ module _ (e : Edition) where
   carriage_return m = quiet (strike m.printer.head.row m)
 
   -- To the next tabbed line below. If tabs stand but none below: form finished, then the lowest-numbered tabbed line. With no tab: as 0D.
-  unfoldable pub tab_to : NextTab → NextTab → Machine → Step
-  tab_to (Tabbed n) lowest m = quiet (strike (first_row m.printer.form n) m)
-  tab_to Untabbed (Tabbed n) m = finished (strike (first_row m.printer.form n) m)
-  tab_to Untabbed Untabbed m = carriage_return m
+  unfoldable pub tab_to : Option Line → Option Line → Machine → Step
+  tab_to (Some n) lowest m = quiet (strike (first_row m.printer.form n) m)
+  tab_to None (Some n) m = finished (strike (first_row m.printer.form n) m)
+  tab_to None None m = carriage_return m
 
   -- 0B: by the tabs below the current line, and by those from line N2 on; tabs outside the margins count as none
   unfoldable pub vertical_tab : Machine → Step

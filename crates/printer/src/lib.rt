@@ -1,7 +1,7 @@
 // The printer: its state, what it can't obey, and what comes of a byte.
 #![tactic(auto)]
 
-use sheet::{Form, Line, Model, Pitch, Row};
+use sheet::{Form, Model, Pitch, Row};
 
 // The bytes of the staging store, of the download store and of the resident font.
 pub const STORE_BYTES: usize = 2048;
@@ -37,19 +37,12 @@ pub struct Load {
     pub sum: u8,
 }
 
-// A number of a command that ESC [ begins: omitted so far, or given so far.
-#[derive(Clone, Copy)]
-pub enum Setting {
-    Omitted,
-    Given(u16),
-}
-
-// The numbers of a command that ESC [ begins, as far as they came, and the semicolons among them.
+// The numbers of a command that ESC [ begins, as far as they came, an omitted one as none, and the semicolons among them.
 #[derive(Clone, Copy)]
 pub struct Settings {
-    pub first: Setting,
-    pub second: Setting,
-    pub third: Setting,
+    pub first: Option<u16>,
+    pub second: Option<u16>,
+    pub third: Option<u16>,
     pub semicolons: u8,
 }
 
@@ -89,18 +82,14 @@ pub struct Printer {
     pub tabs: TabSet,
 }
 
-// Where the pending command began: the place of its first byte.
-#[derive(Clone, Copy)]
-pub enum Begun {
-    Nowhere,
-    At(u32),
-}
-
-// The first of some lines that has a tab.
-#[derive(Clone, Copy)]
-pub enum NextTab {
-    Tabbed(Line),
-    Untabbed,
+// What a caller lends: the page, the stores, and the resident font.
+#[derive(Drop)]
+pub struct Memory<'a> {
+    pub page: &'a mut [u8],
+    pub line: &'a mut [u16],
+    pub staging: &'a mut [u8],
+    pub store: &'a mut [u8],
+    pub font: &'a [u8],
 }
 
 // What came of a byte or a command: the state after it, and the event.

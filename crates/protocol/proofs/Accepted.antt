@@ -14,23 +14,26 @@ use Rattle.printer.specs.Machine.{Machine, opened, store_size}
 use Rattle.printer.specs.Room.{Ready, Sized}
 use Rattle.printer.proofs.Soundness.{facts_sound}
 use Rattle.protocol.specs.declared.Answer.TheVariants.{Done, WrongLines, WrongSpacing}
-use Rattle.protocol.specs.declared.Fit.{Fit}
-use Rattle.protocol.specs.declared.Fit.TheVariants.{Right, Wrong}
+use Rattle.std.specs.Prelude.{Err, Ok}
 use Rattle.protocol.specs.declared.Lent.{Lent}
 use Rattle.protocol.specs.declared.Lent.TheVariants.{Page, LineStore, Staging, DownloadStore, Font}
-use Rattle.protocol.specs.Calls.{Feeding, Opening, feed_fitted, feeding, fit, open_fitted, opening, take_bytes, unopened}
+use Rattle.protocol.specs.Calls.{Fit, Feeding, Opening, feed_fitted, feeding, fit, open_fitted, opening, take_bytes, unopened}
 
 -- all that is lent has its length
 pub record Fitting (e : Edition) (f : Form) (fnt : List ℕ) (m : Machine) : Type 0 where
   pub memory : Sized e f m.page m.line m.staging m.store
   pub font : length fnt ≡ store_size
 
-right-only : (lent : Lent) → Wrong lent ≡ Right → ⊥
+-- all is right
+abbrev right : Fit
+right = Ok tt
+
+right-only : (lent : Lent) → Err lent ≡ right → ⊥
 right-only lent q = let z : ◌≡◌ {A = ℕ} 0 1 = cc in omega arith
 
 -- the five lengths, by what their tests say
 five : (a b c d g : Bool)
-    → cond a (cond b (cond c (cond d (cond g Right (Wrong Font)) (Wrong DownloadStore)) (Wrong Staging)) (Wrong LineStore)) (Wrong Page) ≡ Right
+    → cond a (cond b (cond c (cond d (cond g right (Err Font)) (Err DownloadStore)) (Err Staging)) (Err LineStore)) (Err Page) ≡ right
     → (a ≡ true) × (b ≡ true) × (c ≡ true) × (d ≡ true) × (g ≡ true)
 five true true true true true q = (refl, refl, refl, refl, refl)
 five true true true true false q = absurd (right-only Font q)
@@ -40,12 +43,12 @@ five true false c d g q = absurd (right-only LineStore q)
 five false b c d g q = absurd (right-only Page q)
 
 module _ (e : Edition) (f : Form) (font : List ℕ) (m : Machine) where
-  pub fitting_right : Fitting e f font m → fit e f font m ≡ Right
+  pub fitting_right : Fitting e f font m → fit e f font m ≡ right
   unfolding fit
   fitting_right h =
       rw (eq-eqb _ _ h.memory.page, eq-eqb _ _ h.memory.line, eq-eqb _ _ h.memory.staging, eq-eqb _ _ h.memory.store, eq-eqb _ _ h.font)
 
-  pub right_fitting : {tested : Fit} → tested ≡ fit e f font m → tested ≡ Right → Fitting e f font m
+  pub right_fitting : {tested : Fit} → tested ≡ fit e f font m → tested ≡ right → Fitting e f font m
   unfolding fit
   right_fitting is q =
       let t = five _ _ _ _ _ (sym is ∙ q) in
@@ -82,8 +85,8 @@ module _ (w : Model) (lines spacing : ℕ) (font : List ℕ) (m : Machine) where
   fitted : (t : Fit) → fit e form font m ≡ t → lines_allowed e lines ≡ true → spacing_allowed spacing ≡ true
       → (open_fitted w form t m).answer ≡ Done → Accepted w form font (open_fitted w form t m)
   unfolding open_fitted
-  fitted Right q l s d = record { lines = l; spacing = s; font = (right_fitting e form font m refl q).font; machine = refl }
-  fitted (Wrong lent) q l s d = let z : ◌≡◌ {A = ℕ} 0 1 = cc in absurd (omega arith)
+  fitted (Ok tt) q l s d = record { lines = l; spacing = s; font = (right_fitting e form font m refl q).font; machine = refl }
+  fitted (Err lent) q l s d = let z : ◌≡◌ {A = ℕ} 0 1 = cc in absurd (omega arith)
 
   tested : (a b : Bool) → lines_allowed e lines ≡ a → spacing_allowed spacing ≡ b
       → (cond a (cond b (open_fitted w form (fit e form font m) m) (unopened w WrongSpacing m)) (unopened w WrongLines m)).answer ≡ Done

@@ -23,13 +23,12 @@ use Rattle.printer.specs.Steps.{Step, tell, tell_step}
 use Rattle.printer.proofs.Keeping.{step_counts}
 use Rattle.protocol.specs.declared.Answer.{Answer}
 use Rattle.protocol.specs.declared.Answer.TheVariants.{Done, Finished, Noted, JobFull, Unsound, Misfit, WrongLines, WrongSpacing}
-use Rattle.protocol.specs.declared.Fit.{Fit}
-use Rattle.protocol.specs.declared.Fit.TheVariants.{Right, Wrong}
+use Rattle.std.specs.Prelude.{Err, Ok}
 use Rattle.protocol.specs.declared.Lent.{Lent}
 use Rattle.protocol.specs.declared.Lent.TheVariants.{Page, LineStore, Staging, DownloadStore, Font}
 use Rattle.protocol.specs.Answers.{lent_number, refusal, report}
 use Rattle.protocol.specs.Protocol.{used_up}
-use Rattle.protocol.specs.Calls.{Feeding, Opening, feed_fitted, feeding, fit, heard, open_fitted, opening, stopped, take_bytes, unopened}
+use Rattle.protocol.specs.Calls.{Fit, Feeding, Opening, feed_fitted, feeding, fit, heard, open_fitted, opening, stopped, take_bytes, unopened}
 
 -- what does not fit has the numbers 11 to 15
 lent_numbers : (lent : Lent) → (11 ≤ lent_number lent) × (lent_number lent ≤ 15)
@@ -121,8 +120,8 @@ data Fate (e : Edition) (font piece : List ℕ) (m : Machine) (f : Feeding) : Ty
 module _ (e : Edition) (font piece : List ℕ) (m : Machine) where
   fitted_fate : (t : Fit) → Fate e font piece m (feed_fitted e font piece t m)
   unfolding feed_fitted refusal
-  fitted_fate Right = taken refl
-  fitted_fate (Wrong lent) = refused refl refl refl
+  fitted_fate (Ok tt) = taken refl
+  fitted_fate (Err lent) = refused refl refl refl
 
   tested_fate : (t : Bool) → Fate e font piece m (cond t (feed_fitted e font piece (fit e m.printer.form font m) m) (stopped Unsound m))
   unfolding refusal
@@ -202,8 +201,8 @@ module _ (w : Model) (lines spacing : ℕ) (font : List ℕ) (m : Machine) where
 
   fitted_unchanged : (t : Fit) → Unchanged (open_fitted w form t m)
   unfolding open_fitted refusal
-  fitted_unchanged Right h = absurd (true≢false (sym h))
-  fitted_unchanged (Wrong lent) h = refl
+  fitted_unchanged (Ok tt) h = absurd (true≢false (sym h))
+  fitted_unchanged (Err lent) h = refl
 
   tested_unchanged : (a b : Bool) → Unchanged (cond a (cond b (open_fitted w form (fit e form font m) m) (unopened w WrongSpacing m)) (unopened w WrongLines m))
   tested_unchanged true true h = fitted_unchanged (fit e form font m) h
@@ -217,8 +216,8 @@ module _ (w : Model) (lines spacing : ℕ) (font : List ℕ) (m : Machine) where
   -- an opening gives a state of the model asked for, whatever it answers
   opened_model : (t : Fit) → (open_fitted w form t m).machine.printer.model ≡ w
   unfolding open_fitted
-  opened_model Right = refl
-  opened_model (Wrong lent) = refl
+  opened_model (Ok tt) = refl
+  opened_model (Err lent) = refl
 
   tested_model : (a b : Bool)
       → (cond a (cond b (open_fitted w form (fit e form font m) m) (unopened w WrongSpacing m)) (unopened w WrongLines m)).machine.printer.model ≡ w

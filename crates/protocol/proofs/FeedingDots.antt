@@ -1,6 +1,7 @@
 -- A dot is black after a feeding exactly where it was black in the page lent or a line struck in that feeding put it there, and what is put there lies
 -- on the form.
 use Prim.Native.Nat.{ℕ, ◌*◌, ◌<◌}
+use Rattle.protocol.specs.declared.Lent.{Lent}
 use mathlib.Core.Bool.{Bool, true, false, cond}
 use mathlib.Core.List.{List, [], ◌∷◌, ◌++◌}
 use mathlib.Core.Logic.{◌⊎◌, inl, inr, ⊎_elim, ◌↔◌}
@@ -32,9 +33,8 @@ use Rattle.printer.proofs.Soundness.{sound_facts}
 use Rattle.printer.proofs.StaysSound.{step_fine}
 use Rattle.protocol.specs.declared.Answer.{Answer}
 use Rattle.protocol.specs.declared.Answer.TheVariants.{Done, JobFull, Misfit, Unsound}
-use Rattle.protocol.specs.declared.Fit.{Fit}
-use Rattle.protocol.specs.declared.Fit.TheVariants.{Right, Wrong}
-use Rattle.protocol.specs.Calls.{Feeding, feed_fitted, feeding, fit, heard, stopped, take_bytes}
+use Rattle.std.specs.Prelude.{Err, Ok}
+use Rattle.protocol.specs.Calls.{Fit, Feeding, feed_fitted, feeding, fit, heard, stopped, take_bytes}
 use Rattle.protocol.specs.Strikes.{feeding_strikes, fitted_strikes, if_quiet, taken_strikes}
 use Rattle.protocol.proofs.Accepted.{right_fitting}
 
@@ -82,10 +82,10 @@ module _ (e : Edition) (font : List ℕ) where
   fitted_inked : (piece : List ℕ) (m : Machine) (t : Fit) → fit e m.printer.form font m ≡ t → sound e m.printer ≡ true
       → Inked m.printer.form m.page (fitted_strikes e font piece t m) (feed_fitted e font piece t m)
   unfolding fitted_strikes feed_fitted
-  fitted_inked piece m Right q s =
+  fitted_inked piece m (Ok tt) q s =
       taken_inked piece m m.printer.form refl
       (λ _. record { printer = sound_facts e m.printer s; memory = (right_fitting e m.printer.form font m refl q).memory })
-  fitted_inked piece m (Wrong lent) q s = unstruck m.printer.form (Misfit lent) m
+  fitted_inked piece m (Err lent) q s = unstruck m.printer.form (Misfit lent) m
 
   tested_inked : (piece : List ℕ) (m : Machine) (t : Bool) → sound e m.printer ≡ t
       → Inked m.printer.form m.page (cond t (fitted_strikes e font piece (fit e m.printer.form font m) m) [])
@@ -109,8 +109,8 @@ module _ (e : Edition) (font piece : List ℕ) (m : Machine) where
 
   fitted_size : (t : Fit) → fit e m.printer.form font m ≡ t → Size (fitted_strikes e font piece t m)
   unfolding fitted_strikes
-  fitted_size Right q = inr (right_fitting e m.printer.form font m refl q).memory.page
-  fitted_size (Wrong lent) q = inl refl
+  fitted_size (Ok tt) q = inr (right_fitting e m.printer.form font m refl q).memory.page
+  fitted_size (Err lent) q = inl refl
 
   tested_size : (t : Bool) → Size (cond t (fitted_strikes e font piece (fit e m.printer.form font m) m) [])
   tested_size true = fitted_size (fit e m.printer.form font m) refl

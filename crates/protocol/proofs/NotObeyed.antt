@@ -1,5 +1,6 @@
 -- A feeding that answers with a note: the bytes before its last one were used up, and that byte changed nothing.
 use Prim.Native.Nat.{ℕ, suc, ◌-◌}
+use Rattle.protocol.specs.declared.Lent.{Lent}
 use mathlib.Core.Bool.{Bool, true, false, cond}
 use mathlib.Core.List.{List, [], ◌∷◌}
 use mathlib.Core.Path.{◌≡◌, refl, sym, ap, ◌∙◌}
@@ -15,9 +16,8 @@ use Rattle.printer.specs.Machine.{Machine, limit}
 use Rattle.printer.specs.Sound.{sound}
 use Rattle.printer.proofs.NotObeyed.{not_obeyed, noted_at}
 use Rattle.protocol.specs.declared.Answer.TheVariants.{Noted, JobFull, Unsound}
-use Rattle.protocol.specs.declared.Fit.{Fit}
-use Rattle.protocol.specs.declared.Fit.TheVariants.{Right, Wrong}
-use Rattle.protocol.specs.Calls.{Feeding, feed_fitted, feeding, fit, heard, one_more, stopped, take_bytes}
+use Rattle.std.specs.Prelude.{Err, Ok}
+use Rattle.protocol.specs.Calls.{Fit, Feeding, feed_fitted, feeding, fit, heard, one_more, stopped, take_bytes}
 use Rattle.protocol.specs.Notes.{NotObeyed}
 
 module _ (f : Fault) (place : ℕ) where
@@ -83,8 +83,8 @@ module _ (f : Fault) (place : ℕ) where
 
     fitted_noted : (piece : List ℕ) (t : Fit) (m : Machine) → Notes (λ bs. feed_fitted e font bs t m) piece
     unfolding feed_fitted
-    fitted_noted piece Right m a = taking_noted piece m a
-    fitted_noted piece (Wrong lent) m a = let z : ◌≡◌ {A = ℕ} 0 1 = cc in absurd (omega arith)
+    fitted_noted piece (Ok tt) m a = taking_noted piece m a
+    fitted_noted piece (Err lent) m a = let z : ◌≡◌ {A = ℕ} 0 1 = cc in absurd (omega arith)
 
     tested_noted : (piece : List ℕ) (t : Bool) (m : Machine)
         → Notes (λ bs. cond t (feed_fitted e font bs (fit e m.printer.form font m) m) (stopped Unsound m)) piece

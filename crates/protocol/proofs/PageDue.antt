@@ -14,7 +14,7 @@ use Rattle.printer.specs.Machine.{Machine, store_size}
 use Rattle.printer.specs.Sound.{sound}
 use Rattle.protocol.specs.declared.Answer.{Answer}
 use Rattle.protocol.specs.declared.Answer.TheVariants.{Misfit}
-use Rattle.protocol.specs.declared.Fit.TheVariants.{Right, Wrong}
+use Rattle.std.specs.Prelude.{Err, Ok}
 use Rattle.protocol.specs.declared.Lent.TheVariants.{Page, LineStore, Staging, DownloadStore, Font}
 use Rattle.protocol.specs.Answers.{lent_number, refusal, report}
 use Rattle.protocol.specs.Calls.{feed_fitted, feeding, fit, page_due, stopped}
@@ -22,7 +22,7 @@ use Rattle.protocol.proofs.Answering.{taking_heeds}
 
 -- what the tests behind the page's answer is never 11
 behind_page : (e : Edition) (font piece : List ℕ) (m : Machine) (b c d g : Bool)
-    → (feed_fitted e font piece (cond b (cond c (cond d (cond g Right (Wrong Font)) (Wrong DownloadStore)) (Wrong Staging)) (Wrong LineStore)) m).answer
+    → (feed_fitted e font piece (cond b (cond c (cond d (cond g (Ok tt) (Err Font)) (Err DownloadStore)) (Err Staging)) (Err LineStore)) m).answer
     ≡ Misfit Page → ⊥
 unfolding feed_fitted refusal report lent_number
 behind_page e font piece m true true true true q = true≢false (sym (ap refusal q) ∙ taking_heeds e font piece m)

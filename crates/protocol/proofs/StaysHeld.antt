@@ -1,5 +1,6 @@
 -- Opening and feeding leave a machine that memory can hold, whatever they answer.
 use Prim.Native.Nat.{ℕ, ◌<◌, ◌^◌, ◌≤◌}
+use Rattle.protocol.specs.declared.Lent.{Lent}
 use mathlib.Core.Bool.{Bool, true, false, cond, true≢false}
 use mathlib.Core.List.{List, [], ◌∷◌}
 use mathlib.Core.Path.{◌∙◌, ◌≡◌, ap, refl, subst, sym}
@@ -28,10 +29,9 @@ use Rattle.printer.proofs.StaysHeld.{blank_held, new_held, opened_held, step_hel
 use Rattle.printer.proofs.StaysSound.{step_fine}
 use Rattle.protocol.specs.declared.Answer.{Answer}
 use Rattle.protocol.specs.declared.Answer.TheVariants.{Finished, JobFull, Misfit, Unsound, WrongLines, WrongSpacing}
-use Rattle.protocol.specs.declared.Fit.{Fit}
-use Rattle.protocol.specs.declared.Fit.TheVariants.{Right, Wrong}
+use Rattle.std.specs.Prelude.{Err, Ok}
 use Rattle.protocol.specs.Answers.{refusal}
-use Rattle.protocol.specs.Calls.{Feeding, feed_fitted, feeding, fit, heard, open_fitted, opening, stopped, take_bytes, unopened}
+use Rattle.protocol.specs.Calls.{Fit, Feeding, feed_fitted, feeding, fit, heard, open_fitted, opening, stopped, take_bytes, unopened}
 use Rattle.protocol.specs.Course.{relent}
 use Rattle.protocol.proofs.Accepted.{right_fitting}
 
@@ -48,8 +48,8 @@ module _ (w : Model) (lines spacing : ℕ) (font : List ℕ) (m : Machine) (l : 
 
   fitted_held : (t : Fit) → fit e form font m ≡ t → Held (open_fitted w form t m).machine
   unfolding open_fitted
-  fitted_held Right q = opened_held w lines spacing l s h (right_fitting e form font m refl q).memory
-  fitted_held (Wrong lent) q = shut_held
+  fitted_held (Ok tt) q = opened_held w lines spacing l s h (right_fitting e form font m refl q).memory
+  fitted_held (Err lent) q = shut_held
 
   tested_held : (a b : Bool)
       → Held (cond a (cond b (open_fitted w form (fit e form font m) m) (unopened w WrongSpacing m)) (unopened w WrongLines m)).machine
@@ -122,12 +122,12 @@ module _ {e : Edition} (proper : Proper e) (countable : Countable e) (font : Lis
 
     fitted_left : (t : Fit) → fit e m.printer.form font m ≡ t → sound e m.printer ≡ true → Left (feed_fitted e font piece t m)
     unfolding feed_fitted refusal
-    fitted_left Right q s =
+    fitted_left (Ok tt) q s =
         let ready : Ready e m =
         record { printer = sound_facts e m.printer s; memory = (right_fitting e m.printer.form font m refl q).memory } in
         let after : Goes (take_bytes e font piece m).machine = take_goes piece m bytes (record { ready = ready; held = h }) in
         record { held = after.held; lines = λ _. after.lines }
-    fitted_left (Wrong lent) q s = refused_left (Misfit lent) refl
+    fitted_left (Err lent) q s = refused_left (Misfit lent) refl
 
     tested_left : (t : Bool) → sound e m.printer ≡ t
         → Left (cond t (feed_fitted e font piece (fit e m.printer.form font m) m) (stopped Unsound m))

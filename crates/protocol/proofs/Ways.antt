@@ -12,11 +12,10 @@ use Rattle.printer.specs.Room.{Sized}
 use Rattle.printer.specs.Sound.{sound}
 use Rattle.protocol.specs.declared.Answer.{Answer}
 use Rattle.protocol.specs.declared.Answer.TheVariants.{Done, Misfit, Unsound, WrongLines, WrongSpacing}
-use Rattle.protocol.specs.declared.Fit.{Fit}
-use Rattle.protocol.specs.declared.Fit.TheVariants.{Right, Wrong}
+use Rattle.std.specs.Prelude.{Err, Ok}
 use Rattle.protocol.specs.declared.Lent.{Lent}
 use Rattle.protocol.specs.Answers.{refusal}
-use Rattle.protocol.specs.Calls.{Opening, feed_fitted, feeding, fit, open_fitted, opening, stopped, take_bytes, unopened}
+use Rattle.protocol.specs.Calls.{Fit, Opening, feed_fitted, feeding, fit, open_fitted, opening, stopped, take_bytes, unopened}
 use Rattle.protocol.proofs.Accepted.{right_fitting}
 use Rattle.protocol.proofs.Answering.{opening_refused, taking_heeds}
 
@@ -36,12 +35,12 @@ module _ (w : Model) (lines spacing : ℕ) (font : List ℕ) (m : Machine) where
   open_spacing l s = rw (l, s)
 
   module _ (l : lines_allowed e lines ≡ true) (s : spacing_allowed spacing ≡ true) where
-    pub open_misfit : {tested : Fit} {lent : Lent} → tested ≡ fit e form font m → tested ≡ Wrong lent
+    pub open_misfit : {tested : Fit} {lent : Lent} → tested ≡ fit e form font m → tested ≡ Err lent
         → unopened w (Misfit lent) m ≡ opening w lines spacing font m
     unfolding opening open_fitted
     open_misfit is w = rw (l, s, ← is, w)
 
-    pub open_done : {tested : Fit} → tested ≡ fit e form font m → tested ≡ Right
+    pub open_done : {tested : Fit} → tested ≡ fit e form font m → tested ≡ (Ok tt)
         → record { answer = Done; machine = opened w form } ≡ opening w lines spacing font m
     unfolding opening open_fitted
     open_done is r = rw (l, s, ← is, r)
@@ -61,9 +60,9 @@ module _ (w : Model) (lines spacing : ℕ) (font : List ℕ) (m : Machine) where
   admitted_by : (l s : Bool) (t : Fit) → lines_allowed e lines ≡ l → spacing_allowed spacing ≡ s → fit e form font m ≡ t
       → refusal (cond l (cond s (open_fitted w form t m) (unopened w WrongSpacing m)) (unopened w WrongLines m)).answer ≡ false → Admitted
   unfolding open_fitted refusal
-  admitted_by true true Right l s t r =
+  admitted_by true true (Ok tt) l s t r =
       record { memory = (right_fitting e form font m (sym t) refl).memory; opens = open_done l s (sym t) refl }
-  admitted_by true true (Wrong lent) l s t r = absurd (true≢false r)
+  admitted_by true true (Err lent) l s t r = absurd (true≢false r)
   admitted_by true false f l s t r = absurd (true≢false r)
   admitted_by false x f l s t r = absurd (true≢false r)
 
@@ -76,7 +75,7 @@ module _ (e : Edition) (font piece : List ℕ) (m : Machine) where
   unfolding feeding
   feed_unsound s = rw s
 
-  pub feed_misfit : sound e m.printer ≡ true → {tested : Fit} {lent : Lent} → tested ≡ fit e m.printer.form font m → tested ≡ Wrong lent
+  pub feed_misfit : sound e m.printer ≡ true → {tested : Fit} {lent : Lent} → tested ≡ fit e m.printer.form font m → tested ≡ Err lent
       → stopped (Misfit lent) m ≡ feeding e font piece m
   unfolding feeding feed_fitted
   feed_misfit s is w = rw (s, ← is, w)
@@ -87,8 +86,8 @@ module _ (e : Edition) (font piece : List ℕ) (m : Machine) where
       × (refusal (feeding e font piece m).answer ≡ refusal (feeding e font [] m).answer)
       × (refusal (feeding e font [] m).answer ≡ true → feeding e font piece m ≡ feeding e font [] m)
   unfolding feeding feed_fitted take_bytes refusal
-  feed_by true Right s t = rw (s, t) (refl, taking_heeds e font piece m, λ q. absurd (true≢false (sym q)))
-  feed_by true (Wrong lent) s t = rw (s, t) (refl, refl, λ q. refl)
+  feed_by true (Ok tt) s t = rw (s, t) (refl, taking_heeds e font piece m, λ q. absurd (true≢false (sym q)))
+  feed_by true (Err lent) s t = rw (s, t) (refl, refl, λ q. refl)
   feed_by false f s t = rw s (refl, refl, λ q. refl)
 
   pub feed_nothing : (feeding e font [] m).machine ≡ m

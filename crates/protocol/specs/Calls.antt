@@ -1,5 +1,6 @@
 -- Opening and feeding a job, for every state and all lent memory. Document 01, "Memory lent" and "What a call gives back".
-use Rattle.std.specs.Prelude.{ℕ, suc, cond, List, [], ◌∷◌, eqb, ltb, length}
+use Rattle.std.specs.Prelude.{ℕ, suc, cond, List, [], ◌∷◌, eqb, ltb, length, Err, Ok, Result}
+use Rattle.protocol.specs.declared.Lent.{Lent}
 use Rattle.sheet.specs.declared.Form.{Form}
 use Rattle.sheet.specs.declared.Model.{Model}
 use Rattle.sheet.specs.Edition.{Edition, described}
@@ -13,9 +14,11 @@ use Rattle.printer.specs.Sound.{sound}
 use Rattle.printer.specs.Steps.{Step}
 use Rattle.protocol.specs.declared.Answer.{Answer}
 use Rattle.protocol.specs.declared.Answer.TheVariants.{Done, Finished, Noted, JobFull, Unsound, Misfit, WrongLines, WrongSpacing}
-use Rattle.protocol.specs.declared.Fit.{Fit}
-use Rattle.protocol.specs.declared.Fit.TheVariants.{Right, Wrong}
 use Rattle.protocol.specs.declared.Lent.TheVariants.{Page, LineStore, Staging, DownloadStore, Font}
+
+-- whether all that is lent has its length, or which is the first that has not
+abbrev pub Fit : Type 0
+Fit = Result (Unit {0}) Lent
 
 -- the first of what is lent that has not its exact length: the page's is the form's, the line store's the edition's (L × R × 825 bytes and 2,200 numbers
 -- for the LP2); staging, download store and font have 2,048 bytes each
@@ -25,11 +28,11 @@ fit e f font m =
     (cond (eqb (length m.line) e.columns)
     (cond (eqb (length m.staging) store_size)
     (cond (eqb (length m.store) store_size)
-    (cond (eqb (length font) store_size) Right (Wrong Font))
-    (Wrong DownloadStore))
-    (Wrong Staging))
-    (Wrong LineStore))
-    (Wrong Page)
+    (cond (eqb (length font) store_size) (Ok tt) (Err Font))
+    (Err DownloadStore))
+    (Err Staging))
+    (Err LineStore))
+    (Err Page)
 
 -- what opening gives back, with the memory as it leaves it
 pub record Opening : Type 0 where
@@ -42,8 +45,8 @@ unopened w a m = record { answer = a; machine = with_printer (shut w) m }
 
 -- 11 to 15, then 0
 unfoldable pub open_fitted : Model → Form → Fit → Machine → Opening
-open_fitted w f Right m = record { answer = Done; machine = opened w f }
-open_fitted w f (Wrong lent) m = unopened w (Misfit lent) m
+open_fitted w f (Ok tt) m = record { answer = Done; machine = opened w f }
+open_fitted w f (Err lent) m = unopened w (Misfit lent) m
 
 -- opening a job of a model, over a machine of which only the memory counts: 18, 19, then the lengths
 unfoldable pub opening : Model → ℕ → ℕ → List ℕ → Machine → Opening
@@ -87,8 +90,8 @@ page_due e p = cond (sound e p) (page_bytes e p.form) 0
 
 -- 11 to 15 in order, then bytes
 unfoldable pub feed_fitted : Edition → List ℕ → List ℕ → Fit → Machine → Feeding
-feed_fitted e font piece Right m = take_bytes e font piece m
-feed_fitted e font piece (Wrong lent) m = stopped (Misfit lent) m
+feed_fitted e font piece (Ok tt) m = take_bytes e font piece m
+feed_fitted e font piece (Err lent) m = stopped (Misfit lent) m
 
 -- feeding a piece: 10, then the lengths, then bytes
 unfoldable pub feeding : Edition → List ℕ → List ℕ → Machine → Feeding

@@ -7,6 +7,7 @@ use crate::{Answer, Lent};
 use printer::{Closing, Fault};
 
 // The number of a note.
+#[tactic(auto, unfolding(printer::specs::Numbers::note_number))]
 pub fn note_number(fault: Fault) -> u64
     ensures { result ≡ note_number fault }
 {
@@ -15,18 +16,19 @@ pub fn note_number(fault: Fault) -> u64
         Fault::FormSetting => 43,
         Fault::LineFull => 44,
         Fault::Checksum => 45,
-        Fault::UnnamedControl => 46,
-        Fault::HighByte => 46,
-        Fault::OutOfTurn => 46,
-        Fault::WrongBytes => 46,
-        Fault::PlotLine => 46,
-        Fault::DownloadRange => 46,
+        Fault::UnnamedControl
+        | Fault::HighByte
+        | Fault::OutOfTurn
+        | Fault::WrongBytes
+        | Fault::PlotLine
+        | Fault::DownloadRange => 46,
         Fault::TabLine => 48,
         Fault::IllFormed => 80,
     }
 }
 
 // The number of a refusal of what is lent.
+#[tactic(auto, unfolding(crate::specs::Answers::lent_number))]
 fn lent_number(lent: Lent) -> u64
     ensures { result ≡ lent_number lent }
 {
@@ -40,6 +42,7 @@ fn lent_number(lent: Lent) -> u64
 }
 
 // The number of an answer.
+#[tactic(auto, unfolding(crate::specs::Answers::report))]
 pub fn answer_number(answer: Answer) -> u64
     ensures { result ≡ (report answer).number }
 {
@@ -56,54 +59,40 @@ pub fn answer_number(answer: Answer) -> u64
 }
 
 // The number of the note that an answer has, 0 where it has none.
+#[tactic(auto, unfolding(crate::specs::Answers::report))]
 pub fn noted_number(answer: Answer) -> u64
     ensures { result ≡ value 0 (report answer) }
 {
     match answer {
         Answer::Noted(fault, _) => note_number(fault),
-        Answer::Done => 0,
-        Answer::Finished => 0,
-        Answer::JobFull => 0,
-        Answer::Unsound => 0,
-        Answer::Misfit(_) => 0,
-        Answer::WrongLines => 0,
-        Answer::WrongSpacing => 0,
+        _ => 0,
     }
 }
 
 // The place of the note that an answer has, 0 where it has none.
+#[tactic(auto, unfolding(crate::specs::Answers::report))]
 pub fn noted_place(answer: Answer) -> u64
     ensures { result ≡ value 1 (report answer) }
 {
     match answer {
-        Answer::Noted(_, place) => place as u64,
-        Answer::Done => 0,
-        Answer::Finished => 0,
-        Answer::JobFull => 0,
-        Answer::Unsound => 0,
-        Answer::Misfit(_) => 0,
-        Answer::WrongLines => 0,
-        Answer::WrongSpacing => 0,
+        Answer::Noted(_, place) => u64::from(place),
+        _ => 0,
     }
 }
 
 // Whether an answer is a refusal.
+#[tactic(auto, unfolding(crate::specs::Answers::refusal))]
 pub fn refusal(answer: Answer) -> bool
     ensures { result ≡ refusal answer }
 {
-    match answer {
-        Answer::Done => false,
-        Answer::Finished => false,
-        Answer::Noted(_, _) => false,
-        Answer::JobFull => false,
-        Answer::Unsound => true,
-        Answer::Misfit(_) => true,
-        Answer::WrongLines => true,
-        Answer::WrongSpacing => true,
-    }
+    matches!(
+        answer,
+        Answer::Unsound | Answer::Misfit(_) | Answer::WrongLines | Answer::WrongSpacing
+    )
 }
 
 // The number of what closing says.
+#[tactic(auto, unfolding(printer::specs::Numbers::close_report))]
 pub fn close_number(closing: Closing) -> u64
     ensures { result ≡ (close_report closing).number }
 {
@@ -116,13 +105,12 @@ pub fn close_number(closing: Closing) -> u64
 }
 
 // The place of the command that closing finds unfinished, 0 where it finds none.
+#[tactic(auto, unfolding(printer::specs::Numbers::close_report))]
 pub fn close_place(closing: Closing) -> u64
     ensures { result ≡ value 0 (close_report closing) }
 {
     match closing {
-        Closing::Unsound => 0,
-        Closing::Unfinished(place) => place as u64,
-        Closing::Unprinted => 0,
-        Closing::Clean => 0,
+        Closing::Unfinished(place) => u64::from(place),
+        _ => 0,
     }
 }

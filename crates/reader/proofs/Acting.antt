@@ -4,12 +4,12 @@ use mathlib.Core.List.{List}
 use mathlib.Core.Path.{◌≡◌, ap, sym, ◌∙◌}
 use Rattle.glyph.specs.Words.{high_first}
 use Rattle.printer.specs.declared.Pending.{Pending}
-use Rattle.printer.specs.declared.Pending.TheVariants.{AddressHigh, AddressLow, CountLow, Nothing, Payload, Reset, SelectLow}
+use Rattle.printer.specs.declared.Pending.TheVariants.{AddressHigh, AddressLow, CountLow, Nothing, Payload, SelectLow}
 use Rattle.printer.specs.declared.Printer.{Printer}
 use Rattle.printer.specs.declared.Stepped.{Stepped}
 use Rattle.printer.specs.Bytes.{act, waiting}
-use Rattle.printer.specs.Escapes.{reset, select}
-use Rattle.printer.specs.Given.{given, over}
+use Rattle.printer.specs.Escapes.{select}
+use Rattle.printer.specs.Given.{over}
 use Rattle.printer.specs.Machine.{Machine, edition_of, with_pending, with_printer}
 use Rattle.printer.specs.Steps.{Step}
 
@@ -20,11 +20,6 @@ acted acts told right = right ∙ ap acts (sym told)
 -- the arms that go on from what a call before gave: the state with nothing pending, or a number of two bytes
 module _ (font : List ℕ) (b here : ℕ) (m : Machine) {q : Pending} {r : Stepped} {place : ℕ} where
   module _ {p : Printer} (ends : p ≡ (with_pending Nothing m).printer) where
-    pub resets : {page line staging store : List ℕ} → q ≡ Reset place → given r page line staging store ≡ reset (edition_of p) b place (with_printer p m)
-        → given r page line staging store ≡ act (edition_of m.printer) font q b here m
-    unfolding act
-    resets told right = rw told (rw ends at right)
-
     pub selects : {high : ℕ} → q ≡ SelectLow place high → over m r ≡ select high b place (with_printer p m)
         → over m r ≡ act (edition_of m.printer) font q b here m
     unfolding act

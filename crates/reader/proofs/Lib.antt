@@ -1,3 +1,2 @@
--- What a byte outside plot mode is.
-pub mod TextBytes
+-- What a byte does.
 pub mod Acting

@@ -4,9 +4,9 @@ ghost use Rattle.glyph.specs.Words.{high_first};
 ghost use Rattle.printer.specs.Alone.{alone, text_byte};
 ghost use Rattle.printer.specs.Bytes.{act, bracket_byte, first_byte, second_byte, step, tab_byte, text_escape, waiting};
 ghost use Rattle.printer.specs.Facts.{SoundForm};
-ghost use Rattle.printer.specs.Given.{given, machine, over};
+ghost use Rattle.printer.specs.Given.{LentOn, given, given_in, machine, machine_in, over};
 ghost use Rattle.printer.specs.Machine.{Machine, edition_of, limit, with_printer};
-ghost use Rattle.printer.specs.Room.{Room, Strikable, Writable};
+ghost use Rattle.printer.specs.Room.{OnLine, RoomIn, Strikable, Writable};
 
 use carriage::plotting::{plot_byte, plot_escape};
 use carriage::printing::print;
@@ -15,7 +15,7 @@ use codes::{continues, prints};
 use commands::brackets::{bracket, setting_byte};
 use commands::downloads::payload_byte;
 use commands::escapes::{escape, reset, select, tab_item};
-use printer::{Fault, Load, Pending, Printer, Setting, Settings, Stepped};
+use printer::{Fault, Load, Memory, Pending, Printer, Settings, Stepped};
 use sheet::sizes::brackets;
 use state::parts::{clear_tabs, noted, quiet, with_pending};
 
@@ -23,7 +23,7 @@ use state::parts::{clear_tabs, noted, quiet, with_pending};
 fn high_first(high: u8, low: u8) -> u16
     ensures { result ≡ high_first high low }
 {
-    (high as u16) * 256 + (low as u16)
+    u16::from_be_bytes([high, low])
 }
 
 // A byte that ends no command.
@@ -34,85 +34,72 @@ fn waiting(p: Printer, next: Pending) -> Stepped
 }
 
 // A byte that is a whole command outside plot mode.
-fn text_byte(
-    p: Printer,
-    b: u8,
-    place: u32,
-    page: &mut [u8],
-    line: &mut [u16],
-    store: &[u8],
-    font: &[u8],
-) -> Stepped
-    requires { Strikable (edition_of p) p page.old line.old × Writable (edition_of p) p line.old store.now font.now }
-    ensures { (staging : List ℕ) → given result page.new line.new staging store.now
-        ≡ text_byte (edition_of p) font.now b place (machine p page.old line.old staging store.now) }
+#[tactic(auto, unfolding(printer::specs::Alone::text_byte, printer::specs::Alone::prints))]
+fn text_byte(p: Printer, b: u8, place: u32, memory: &mut Memory<'_>) -> Stepped
+    requires { Strikable (edition_of p) p memory.old.page.now memory.old.line.now
+        × Writable (edition_of p) p memory.old.line.now memory.old.store.now memory.old.font.now }
+    ensures stepped { given_in result memory.new
+        ≡ text_byte (edition_of p) memory.old.font.now b place (machine_in p memory.old) }
+    ensures lent { LentOn memory.old memory.new }
 {
     if prints(b) {
-        return print(p, b, place, line, store, font);
+        let font = memory.font;
+        return print(p, b, place, memory.line, &mut *memory.store, font);
     }
     match b {
         0x00 | 0x07 | 0x7f => quiet(p),
-        0x0a => newline(p, page, line),
-        0x0b => vertical_tab(p, page, line),
-        0x0c => form_feed(p, page, line),
-        0x0d => carriage_return(p, page, line),
+        0x0a => newline(p, memory.page, memory.line),
+        0x0b => vertical_tab(p, memory.page, memory.line),
+        0x0c => form_feed(p, memory.page, memory.line),
+        0x0d => carriage_return(p, memory.page, memory.line),
         0x80..=0xff => noted(p, Fault::HighByte, place),
         _ => noted(p, Fault::UnnamedControl, place),
     }
 }
 
 // A byte other than 1B, in plot mode or outside it.
-fn alone(
-    p: Printer,
-    b: u8,
-    place: u32,
-    page: &mut [u8],
-    line: &mut [u16],
-    store: &[u8],
-    font: &[u8],
-) -> Stepped
-    requires { Strikable (edition_of p) p page.old line.old × Writable (edition_of p) p line.old store.now font.now }
-    ensures { (staging : List ℕ) → given result page.new line.new staging store.now
-        ≡ alone (edition_of p) font.now b place (machine p page.old line.old staging store.now) }
+#[tactic(auto, unfolding(printer::specs::Alone::alone))]
+fn alone(p: Printer, b: u8, place: u32, memory: &mut Memory<'_>) -> Stepped
+    requires { Strikable (edition_of p) p memory.old.page.now memory.old.line.now
+        × Writable (edition_of p) p memory.old.line.now memory.old.store.now memory.old.font.now }
+    ensures stepped { given_in result memory.new
+        ≡ alone (edition_of p) memory.old.font.now b place (machine_in p memory.old) }
+    ensures lent { LentOn memory.old memory.new }
 {
     if p.head.plotting {
-        plot_byte(p, b, place, line)
+        plot_byte(p, b, place, memory.line)
     } else {
-        text_byte(p, b, place, page, line, store, font)
+        text_byte(p, b, place, memory)
     }
 }
 
 // A byte with nothing pending.
-fn first_byte(
-    p: Printer,
-    b: u8,
-    place: u32,
-    page: &mut [u8],
-    line: &mut [u16],
-    store: &[u8],
-    font: &[u8],
-) -> Stepped
-    requires { Strikable (edition_of p) p page.old line.old × Writable (edition_of p) p line.old store.now font.now }
-    ensures { (staging : List ℕ) → given result page.new line.new staging store.now
-        ≡ first_byte (edition_of p) font.now b place (machine p page.old line.old staging store.now) }
+#[tactic(auto, unfolding(printer::specs::Bytes::first_byte))]
+fn first_byte(p: Printer, b: u8, place: u32, memory: &mut Memory<'_>) -> Stepped
+    requires { Strikable (edition_of p) p memory.old.page.now memory.old.line.now
+        × Writable (edition_of p) p memory.old.line.now memory.old.store.now memory.old.font.now }
+    ensures stepped { given_in result memory.new
+        ≡ first_byte (edition_of p) memory.old.font.now b place (machine_in p memory.old) }
+    ensures lent { LentOn memory.old memory.new }
 {
     if b == 0x1b {
         waiting(p, Pending::Escape(place))
     } else {
-        alone(p, b, place, page, line, store, font)
+        alone(p, b, place, memory)
     }
 }
 
 // ESC [: a command begins where it can, else there is none of the name.
+#[tactic(auto, unfolding(printer::specs::Escapes::escape, printer::specs::Bytes::text_escape))]
 fn bracket_begun(p: Printer, place: u32) -> Stepped
     ensures { (m : Machine) → over m result ≡ text_escape (edition_of p) 0x5b place (with_printer p m) }
 {
     let model = p.model;
     if brackets(model) {
         let none = Settings {
-            first: Setting::Omitted,
-            second: Setting::Omitted,
-            third: Setting::Omitted,
+            first: None,
+            second: None,
+            third: None,
             semicolons: 0,
         };
         waiting(p, Pending::Bracket(place, none))
@@ -126,6 +113,7 @@ fn bracket_begun(p: Printer, place: u32) -> Stepped
 }
 
 // The byte after ESC, outside plot mode.
+#[tactic(auto, unfolding(printer::specs::Bytes::text_escape))]
 fn text_escape(p: Printer, b: u8, place: u32) -> Stepped
     ensures { (m : Machine) → over m result ≡ text_escape (edition_of p) b place (with_printer p m) }
 {
@@ -140,8 +128,9 @@ fn text_escape(p: Printer, b: u8, place: u32) -> Stepped
 }
 
 // The byte after ESC.
+#[tactic(auto, unfolding(printer::specs::Bytes::second_byte))]
 fn second_byte(p: Printer, b: u8, place: u32, line: &mut [u16]) -> Stepped
-    requires { (p.head.column ≤ (edition_of p).columns) × (length line.old ≡ (edition_of p).columns) }
+    requires { OnLine (edition_of p) p line.old }
     ensures { (page staging store : List ℕ) → given result page line.new staging store
         ≡ second_byte (edition_of p) b place (machine p page line.old staging store) }
 {
@@ -153,6 +142,7 @@ fn second_byte(p: Printer, b: u8, place: u32, line: &mut [u16]) -> Stepped
 }
 
 // A byte of a tab list.
+#[tactic(auto, unfolding(printer::specs::Bytes::tab_byte))]
 fn tab_byte(p: Printer, b: u8, here: u32) -> Stepped
     ensures { (m : Machine) → over m result ≡ tab_byte b here (with_printer p m) }
 {
@@ -164,6 +154,7 @@ fn tab_byte(p: Printer, b: u8, here: u32) -> Stepped
 }
 
 // A byte after ESC [: a digit or a semicolon goes on with its numbers, any other ends it.
+#[tactic(auto, unfolding(printer::specs::Bytes::bracket_byte))]
 fn bracket_byte(p: Printer, s: Settings, b: u8, place: u32) -> Stepped
     requires { SoundForm (edition_of p) p.form }
     ensures { (m : Machine) → over m result ≡ bracket_byte (edition_of p) s b place (with_printer p m) }
@@ -176,27 +167,21 @@ fn bracket_byte(p: Printer, s: Settings, b: u8, place: u32) -> Stepped
 }
 
 // A byte that stands `here` in the job, which has it counted.
-fn act(
-    p: Printer,
-    pending: Pending,
-    b: u8,
-    here: u32,
-    page: &mut [u8],
-    line: &mut [u16],
-    staging: &mut [u8],
-    store: &mut [u8],
-    font: &[u8],
-) -> Stepped
-    requires { Room (edition_of p) p page.old line.old staging.old store.old font.now }
-    ensures { given result page.new line.new staging.new store.new
-        ≡ act (edition_of p) font.now pending b here
-        (machine p page.old line.old staging.old store.old) }
+#[tactic(auto, unfolding(printer::specs::Bytes::act))]
+fn act(p: Printer, pending: Pending, b: u8, here: u32, memory: &mut Memory<'_>) -> Stepped
+    requires { RoomIn p memory.old }
+    ensures stepped { given_in result memory.new
+        ≡ act (edition_of p) memory.old.font.now pending b here (machine_in p memory.old) }
+    ensures lent { LentOn memory.old memory.new }
 {
     match pending {
-        Pending::Nothing => first_byte(p, b, here, page, line, store, font),
-        Pending::Escape(place) => second_byte(p, b, place, line),
+        Pending::Nothing => first_byte(p, b, here, memory),
+        Pending::Escape(place) => second_byte(p, b, place, memory.line),
         Pending::Tabs(_) => tab_byte(p, b, here),
-        Pending::Reset(place) => { reset(with_pending(p, Pending::Nothing), b, place, line, store) }
+        Pending::Reset(place) => {
+            let q = with_pending(p, Pending::Nothing);
+            reset(q, b, place, memory.line, memory.store)
+        }
         Pending::Select(place) => waiting(p, Pending::SelectLow(place, b)),
         Pending::SelectLow(place, high) => {
             select(with_pending(p, Pending::Nothing), high, b, place)
@@ -215,28 +200,27 @@ fn act(
             };
             waiting(p, Pending::Payload(place, load))
         }
-        Pending::Payload(place, load) => payload_byte(p, load, b, place, staging, store),
+        Pending::Payload(place, load) => payload_byte(
+            p,
+            load,
+            b,
+            place,
+            memory.staging,
+            memory.store,
+        ),
         Pending::Bracket(place, settings) => bracket_byte(p, settings, b, place),
     }
 }
 
 // One byte: it is counted, then acted on.
-pub fn step(
-    p: Printer,
-    b: u8,
-    page: &mut [u8],
-    line: &mut [u16],
-    staging: &mut [u8],
-    store: &mut [u8],
-    font: &[u8],
-) -> Stepped
-    requires { Room (edition_of p) p page.old line.old staging.old store.old font.now × (p.job < limit) }
-    ensures { given result page.new line.new staging.new store.new
-        ≡ step (edition_of p) font.now b (machine p page.old line.old staging.old store.old) }
+#[tactic(auto, unfolding(printer::specs::Bytes::step))]
+pub fn step(p: Printer, b: u8, memory: &mut Memory<'_>) -> Stepped
+    requires { RoomIn p memory.old × (p.job < limit) }
+    ensures stepped { given_in result memory.new
+        ≡ step (edition_of p) memory.old.font.now b (machine_in p memory.old) }
+    ensures lent { LentOn memory.old memory.new }
 {
-    let pending = p.pending;
     let here = p.job;
-    let mut q = p;
-    q.job = here + 1;
-    act(q, pending, b, here, page, line, staging, store, font)
+    let counted = Printer { job: here + 1, ..p };
+    act(counted, p.pending, b, here, memory)
 }

@@ -1,2 +1,1 @@
-mod Summing
-mod Lengths
+mod TwoBytes

@@ -1,69 +1,78 @@
 // Adler-32 sums.
-ghost use Rattle.std.specs.Prelude.{◌≡◌, ◌/◌, ◌%◌, ◌<◌, ◌≤◌};
-ghost use Rattle.replay.specs.Adler.{adler, two_bytes};
+ghost use Rattle.std.specs.Prelude.{◌≡◌, ◌+◌, ◌*◌, ◌%◌, ◌<◌, ℕ, List, ◌∷◌};
+ghost use Rattle.replay.specs.Adler.{adler, sum_on, two_bytes};
 
-// A byte as a number to sum.
-fn wide(byte: u8) -> u32
-    ensures value { result ≡ byte }
-    ensures upper_bound { result ≤ 255 }
-{
-    byte as u32
-}
+// The prime that both halves of a sum are taken modulo.
+const PRIME: u32 = 65521;
 
-// The high byte of a number.
-fn high_byte(number: u16) -> u32
-    ensures value { result ≡ number / 256 }
-    ensures upper_bound { result ≤ 255 }
-{
-    (number / 256) as u32
-}
-
-// The low byte of a number.
-fn low_byte(number: u16) -> u32
-    ensures value { result ≡ number % 256 }
-    ensures upper_bound { result ≤ 255 }
-{
-    (number % 256) as u32
-}
-
-// A sum of two halves, modulo 65,521.
+// A sum of two halves modulo the prime: a subtraction takes half the time of a division.
 fn reduced(sum: u32) -> u32
     requires { sum < 131042 }
     ensures value { result ≡ sum % 65521 }
     ensures upper_bound { result < 65521 }
 {
-    if sum < 65521 { sum } else { sum - 65521 }
+    if sum < PRIME { sum } else { sum - PRIME }
+}
+
+// The halves of the sum of the bytes so far: one more than their sum, and the sum of what that was after each.
+#[derive(Clone, Copy)]
+struct Halves {
+    first: u32,
+    second: u32,
+    ghost reduced: { (first < 65521) × (second < 65521) },
+}
+
+impl Halves {
+    // The halves of no bytes.
+    fn new() -> Halves
+        ensures first { result.first ≡ 1 }
+        ensures second { result.second ≡ 0 }
+    {
+        Halves {
+            first: 1,
+            second: 0,
+        }
+    }
+
+    // The halves with a byte more.
+    #[tactic(auto, unfolding(crate::specs::Adler::sum_on))]
+    fn with(self, byte: u8) -> Halves
+        ensures { (rest : List ℕ) → sum_on (byte ∷ rest) self.first self.second ≡ sum_on rest result.first result.second }
+    {
+        let first = reduced(self.first + u32::from(byte));
+        let second = reduced(self.second + first);
+        Halves { first, second }
+    }
+
+    // The sum.
+    fn sum(self) -> u32
+        ensures { result ≡ self.second * 65536 + self.first }
+    {
+        self.second * 65536 + self.first
+    }
 }
 
 // The sum of bytes.
+#[tactic(auto, unfolding(crate::specs::Adler::sum_on))]
 pub fn adler(bytes: &[u8]) -> u32
     ensures { result ≡ adler bytes.now }
 {
-    let mut first: u32 = 1;
-    let mut second: u32 = 0;
-    let mut i = 0;
-    while i < bytes.len() {
-        first = reduced(first + wide(bytes[i]));
-        second = reduced(second + first);
-        i += 1;
+    let mut halves = Halves::new();
+    for byte in bytes {
+        halves = halves.with(*byte);
     }
-    second * 65536 + first
+    halves.sum()
 }
 
 // The sum of numbers, each as two bytes, high first.
+#[tactic(auto, unfolding(crate::specs::Adler::sum_on, crate::specs::Adler::two_bytes))]
 pub fn adler_numbers(numbers: &[u16]) -> u32
     ensures { result ≡ adler (two_bytes numbers.now) }
 {
-    let mut first: u32 = 1;
-    let mut second: u32 = 0;
-    let mut i = 0;
-    while i < numbers.len() {
-        let number = numbers[i];
-        first = reduced(first + high_byte(number));
-        second = reduced(second + first);
-        first = reduced(first + low_byte(number));
-        second = reduced(second + first);
-        i += 1;
+    let mut halves = Halves::new();
+    for number in numbers {
+        let [high, low] = number.to_be_bytes();
+        halves = halves.with(high).with(low);
     }
-    second * 65536 + first
+    halves.sum()
 }

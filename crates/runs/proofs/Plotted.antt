@@ -35,11 +35,11 @@ begins = refl
 
 module _ (e : Edition) {p : Printer} (h : Plotting p) (b : ℕ) where
   -- such a byte goes on a run of columns, and no other does
-  draws_on : goes_on e b p.pending p ≡ (plots b && leb (past e 1 p) (e.width p.style.pitch))
+  pub draws_on : goes_on e b p.pending p ≡ (plots b && leb (past e 1 p) (e.width p.style.pitch))
   unfolding goes_on
   draws_on = simp (h.pending, h.plotting)
 
-  draws_step : (font page line staging store : List ℕ) → plots b ≡ true → past e 1 p ≤ e.width p.style.pitch
+  pub draws_step : (font page line staging store : List ℕ) → plots b ≡ true → past e 1 p ≤ e.width p.style.pitch
       → step e font b (machine p page line staging store)
       ≡ quiet (machine (moved (past e 1 p) p) page (or_in p.head.column b line) staging store)
   unfolding step act first_byte alone plot_byte plot

@@ -8,10 +8,15 @@ use native.Mathlib.Numerals.{add-one}
 use native.Mathlib.Omega.{arith}
 use borrow.Author.Tests.{le-ltb, lt-ltb}
 use lib.Dec.{T, ltb, ltb→lt}
-use lib.ListN.{drop, drop_of_length-le, get_or, length}
+use lib.ListN.{drop, drop_of_length-le, get_or, length, take}
 use lib.Seq.{drop-cons}
+use Rattle.std.proofs.Common.{length-take-le}
 use Rattle.sheet.specs.Edition.{Edition}
+use Rattle.printer.specs.declared.Load.{Load}
 use Rattle.printer.specs.declared.Pending.{Pending}
+use Rattle.printer.specs.declared.Pending.TheVariants.{Nothing, Escape, Tabs, Reset, Select, SelectLow, CountHigh, CountLow, AddressHigh}
+use Rattle.printer.specs.declared.Pending.TheVariants.{AddressLow, Payload, Bracket}
+use Rattle.printer.specs.declared.Printer.{Printer}
 use Rattle.printer.specs.Bytes.{step}
 use Rattle.printer.specs.Machine.{Machine, limit}
 use Rattle.printer.specs.Steps.{quiet}
@@ -114,6 +119,34 @@ module _ {n k job₀ job : ℕ} (t : Taken n k job₀ job) (another : k < n) whe
 
     pub room_for_it : job < limit
     room_for_it = omega (arith, (fitting-most job₀ piece).room, t.counted)
+
+-- the bytes that fit the job, as a part of the piece
+module _ {n : ℕ} (job₀ : ℕ) (piece : List ℕ) (most : n ≡ fitting job₀ piece) where
+  pub part_length : length (take n piece) ≡ n
+  part_length = length-take-le n piece (omega (arith, (fitting-most job₀ piece).within))
+
+  pub in_part : {k : ℕ} → k < length (take n piece) → k < n
+  in_part l = omega (arith, part_length)
+
+  pub over_part : {k : ℕ} → length (take n piece) ≤ k → n ≤ k
+  over_part l = omega (arith, part_length)
+
+-- a command between its bytes goes on no run
+pub half_command : (e : Edition) (b : ℕ) (p : Printer) (q : Pending) → (q ≡ Nothing → ⊥) → ((place : ℕ) (load : Load) → q ≡ Payload place load → ⊥)
+    → goes_on e b q p ≡ false
+unfolding goes_on
+half_command e b p Nothing nothing payload = absurd (nothing refl)
+half_command e b p (Payload place load) nothing payload = absurd (payload place load refl)
+half_command e b p (Escape place) nothing payload = refl
+half_command e b p (Tabs place) nothing payload = refl
+half_command e b p (Reset place) nothing payload = refl
+half_command e b p (Select place) nothing payload = refl
+half_command e b p (SelectLow place high) nothing payload = refl
+half_command e b p (CountHigh place) nothing payload = refl
+half_command e b p (CountLow place high) nothing payload = refl
+half_command e b p (AddressHigh place count) nothing payload = refl
+half_command e b p (AddressLow place count high) nothing payload = refl
+half_command e b p (Bracket place settings) nothing payload = refl
 
 -- a run that comes back as r is the one that r is
 pub comes_back : {r s : Ran} {page line staging store : List ℕ} {x : Run} → r ≡ s → x ≡ given_run s page line staging store

@@ -1,32 +1,21 @@
 -- A payload byte of a run.
 use Prim.Native.Nat.{ℕ, ◌+◌, ◌≤◌, ◌<◌}
 use mathlib.Core.List.{List}
-use mathlib.Core.Path.{◌≡◌, ap, subst}
+use mathlib.Core.Path.{◌≡◌}
 use borrow.Author.Tests.{le-ltb, lt-ltb}
 use lib.ListN.{get_or, length, set}
 use Rattle.sheet.specs.Edition.{Edition}
 use Rattle.printer.specs.declared.Load.{Load}
-use Rattle.printer.specs.declared.Pending.{Pending}
-use Rattle.printer.specs.declared.Pending.TheVariants.{Payload}
 use Rattle.printer.specs.declared.Printer.{Printer}
 use Rattle.printer.specs.Bytes.{act, loaded, payload_byte, step}
 use Rattle.printer.specs.Given.{machine}
 use Rattle.printer.specs.Machine.{Machine, limit}
 use Rattle.runs.specs.Runs.{goes_on, loading, running}
-use Rattle.runs.proofs.Running.{Runs, runs_nowhere, runs_on, runs_out}
+use Rattle.runs.proofs.Running.{Runs, runs_on, runs_out}
 
 module _ (e : Edition) (place : ℕ) (p : Printer) (font piece page line store : List ℕ) where
   abbrev at_work : Load → ℕ → List ℕ → Machine
   at_work l job staging = machine (loading place l job p) page line staging store
-
-  pub begins : (l : Load) (staging : List ℕ) → p.pending ≡ Payload place l
-      → Runs e font piece 0 (machine p page line staging store) (at_work l p.job staging)
-  begins l staging q =
-      let with : Pending → Machine =
-      λ x.
-      let q : Printer = record { model = p.model; form = p.form; job = p.job; pending = x; head = p.head; style = p.style; tabs = p.tabs } in
-      machine q page line staging store in
-      subst (λ (m : Machine). Runs e font piece 0 (machine p page line staging store) m) (ap with q) (runs_nowhere e font piece _)
 
   module _ {m : Machine} {k : ℕ} (l : Load) (job : ℕ) (staging : List ℕ) (h : Runs e font piece k m (at_work l job staging)) (i : k < length piece) where
     -- one payload byte more

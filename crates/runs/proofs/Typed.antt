@@ -3,7 +3,6 @@ use Prim.Native.Nat.{ℕ, ◌+◌, ◌*◌, ◌≤◌, ◌<◌}
 use mathlib.Core.Bool.{Bool, true, false, cond, not, ◌&&◌, and-eq-true_iff, true≢false}
 use mathlib.Core.List.{List}
 use mathlib.Core.Path.{◌≡◌, refl, ap, sym, ◌∙◌}
-use native.Mathlib.Nat.{mul-le-mul_right}
 use native.Mathlib.Omega.{arith}
 use borrow.Author.Tests.{le-leb, leb-true, ne_eqb, not-false}
 use lib.Dec.{leb}
@@ -13,7 +12,6 @@ use Rattle.sheet.specs.Edition.{Edition, described}
 use Rattle.sheet.proofs.Editions.{Proper, described_bounded}
 use Rattle.glyph.specs.Entering.{cell, enter}
 use Rattle.glyph.specs.Room.{Room}
-use Rattle.glyph.proofs.Cells.{cell_bounds}
 use Rattle.printer.specs.declared.Printer.{Printer}
 use Rattle.printer.specs.declared.Style.{Style}
 use Rattle.printer.specs.Alone.{alone, prints, text_byte}
@@ -45,7 +43,7 @@ module _ (e : Edition) {p : Printer} (h : Typing p) (b : ℕ) where
   unfolding goes_on
   types_on = simp (h.pending, h.plotting, h.plotted)
 
-  types_step : (font page line staging store : List ℕ) → prints b ≡ true → next ≤ e.width p.style.pitch
+  pub types_step : (font page line staging store : List ℕ) → prints b ≡ true → next ≤ e.width p.style.pitch
       → step e font b (machine p page line staging store)
       ≡ quiet (machine (moved next p) page (entered e font b (machine p page line staging store)) staging store)
   unfolding step act first_byte alone text_byte print entered
@@ -68,14 +66,10 @@ pub record Pace (e : Edition) (style : Style) (stride each w : ℕ) : Type 0 whe
   pub cells : each ≡ stride * cell style.elongated
   pub width : w ≡ e.width style.pitch
 
--- a column takes five positions at most, and a cell a hundred
+-- a column takes five positions at most
 module _ (model : Model) {style : Style} {stride each w : ℕ} (pace : Pace (described model) style stride each w) where
   pub stride_most : stride ≤ 5
   stride_most = rw pace.steps ((described_bounded model).stride style.pitch)
-
-  pub cell_most : each ≤ 100
-  cell_most =
-      omega (arith, pace.cells, cell_bounds style.elongated, mul-le-mul_right (cell style.elongated) stride_most)
 
 module _ {e : Edition} (proper : Proper e) {style : Style} {stride each w : ℕ} (pace : Pace e style stride each w) where
   -- its cell is on the line

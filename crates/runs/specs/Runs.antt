@@ -1,6 +1,6 @@
 -- A run: the like bytes that a piece begins with, characters, plotted columns or payload, which are taken at one go. It states no rule: each byte of a
 -- run leads where it leads by itself.
-use Rattle.std.specs.Prelude.{ℕ, suc, ◌-◌, Bool, true, false, cond, not, ◌&&◌, List, [], ◌∷◌, ◌≡◌, leb, ltb, length}
+use Rattle.std.specs.Prelude.{ℕ, suc, ◌-◌, Bool, true, false, cond, not, ◌&&◌, List, [], ◌∷◌, ◌≡◌, leb, ltb, length, None, Option, Some}
 use Rattle.sheet.specs.Edition.{Edition}
 use Rattle.glyph.specs.Entering.{cell}
 use Rattle.printer.specs.declared.Load.{Load}
@@ -15,8 +15,6 @@ use Rattle.printer.specs.Machine.{Machine, limit}
 use Rattle.printer.specs.Plotting.{plots}
 use Rattle.printer.specs.Printing.{past}
 use Rattle.runs.specs.declared.Ran.{Ran}
-use Rattle.runs.specs.declared.Reached.{Reached}
-use Rattle.runs.specs.declared.Reached.TheVariants.{Nowhere, At}
 
 -- a byte is a character whose cell fits the line
 abbrev pub types : Edition → ℕ → Printer → Bool
@@ -66,9 +64,9 @@ abbrev pub given_run : Ran → List ℕ → List ℕ → List ℕ → List ℕ �
 given_run r page line staging store = record { taken = r.taken; machine = machine r.printer page line staging store }
 
 -- the run of a single byte, by where it has brought the head
-unfoldable pub reached : Reached → Printer → Ran
-reached Nowhere p = record { printer = p; taken = 0 }
-reached (At column) p = record { printer = moved column p; taken = 1 }
+unfoldable pub reached : Option ℕ → Printer → Ran
+reached None p = record { printer = p; taken = 0 }
+reached (Some column) p = record { printer = moved column p; taken = 1 }
 
 -- how many bytes of a piece fit the job
 abbrev pub fitting : ℕ → List ℕ → ℕ

@@ -10,13 +10,6 @@ pub struct Ran {
     pub taken: usize,
 }
 
-// Where a single byte has brought the head, if it goes on a run.
-#[derive(Clone, Copy)]
-pub enum Reached {
-    Nowhere,
-    At(usize),
-}
-
 mod byte;
 mod payload;
 mod plots;

@@ -13,24 +13,16 @@ use printer::{Load, Pending, Printer};
 fn staged(p: Printer, place: u32, load: Load, job: u32, taken: usize) -> Ran
     ensures { result ≡ record { printer = loading place load job p; taken = taken } }
 {
-    let model = p.model;
-    let form = p.form;
-    let head = p.head;
-    let style = p.style;
-    let tabs = p.tabs;
     let printer = Printer {
-        model,
-        form,
         job,
         pending: Pending::Payload(place, load),
-        head,
-        style,
-        tabs,
+        ..p
     };
     Ran { printer, taken }
 }
 
 // The payload that a piece begins with, among its first n bytes, staged as far as the download lacks it.
+#[tactic(auto, using(crate::proofs::Staged::staged_out, crate::proofs::Running::runs_over))]
 pub(crate) fn payload_run(
     p: Printer,
     place: u32,
@@ -46,16 +38,13 @@ pub(crate) fn payload_run(
 {
     let mut l = load;
     let mut job = p.job;
-    let mut k = 0;
-    while k < n {
+    for (k, &b) in piece[..n].iter().enumerate() {
         if l.count <= l.taken {
             return staged(p, place, l, job, k);
         }
-        let b = piece[k];
         stage(staging, l.taken, b);
         l = loaded(l, b);
         job += 1;
-        k += 1;
     }
-    staged(p, place, l, job, k)
+    staged(p, place, l, job, n)
 }

@@ -18,29 +18,18 @@ pub(crate) fn draws(b: u8, next: usize, w: usize) -> bool
     plots(b) && next <= w
 }
 
-// A byte as wires: the lowest seven.
-pub(crate) fn wires(b: u8) -> u16
-    ensures { result ≡ b }
-{
-    b as u16
-}
-
 // The columns that a piece begins with, among its first n bytes, plotted as far as they fit the line.
+#[tactic(auto, using(sheet::proofs::Editions::described_bounded))]
 pub(crate) fn plot_run(p: Printer, piece: &[u8], n: usize, line: &mut [u16]) -> Ran
     requires { Plotting p × (p.head.column ≤ (edition_of p).columns) × (length line.old ≡ (edition_of p).columns) × (n ≡ fitting p.job piece.now) }
     ensures { (font page staging store : List ℕ)
         → given_run result page line.new staging store
         ≡ running (edition_of p) font piece.now (machine p page line.old staging store) }
 {
-    let model = p.model;
-    let style = p.style;
-    let pitch = style.pitch;
-    let w = width(model, pitch);
-    let each = stride(model, pitch);
+    let w = width(p.model, p.style.pitch);
+    let each = stride(p.model, p.style.pitch);
     let mut q = p;
-    let mut k = 0;
-    while k < n {
-        let b = piece[k];
+    for (k, &b) in piece[..n].iter().enumerate() {
         let at = q.head.column;
         let next = at + each;
         if !draws(b, next, w) {
@@ -49,14 +38,13 @@ pub(crate) fn plot_run(p: Printer, piece: &[u8], n: usize, line: &mut [u16]) -> 
                 taken: k,
             };
         }
-        or_in(line, at, wires(b));
+        or_in(line, at, u16::from(b));
         q.head.column = next;
         q.head.fresh = false;
         q.job += 1;
-        k += 1;
     }
     Ran {
         printer: q,
-        taken: k,
+        taken: n,
     }
 }

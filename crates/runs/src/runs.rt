@@ -42,6 +42,7 @@ fn fitting(job: u32, piece: &[u8]) -> usize
 }
 
 // With nothing pending: columns in plot mode, characters outside it, and none on a plot line that plot mode has left.
+#[tactic(auto, using(crate::proofs::Running::between), unfolding(crate::specs::Runs::goes_on))]
 fn plain_run(p: Printer, piece: &[u8], n: usize, line: &mut [u16], store: &[u8], font: &[u8]) -> Ran
     requires { (p.pending ≡ Nothing) × Writable (edition_of p) p line.old store.now font.now × (n ≡ fitting p.job piece.now) }
     ensures { (page staging : List ℕ)
@@ -58,6 +59,7 @@ fn plain_run(p: Printer, piece: &[u8], n: usize, line: &mut [u16], store: &[u8],
 }
 
 // The run that a piece begins with, by what is pending.
+#[tactic(auto, using(crate::proofs::Running::between, crate::proofs::Running::half_command))]
 pub fn run(
     p: Printer,
     piece: &[u8],
@@ -69,23 +71,12 @@ pub fn run(
     requires { Writable (edition_of p) p line.old store.now font.now }
     ensures { (page : List ℕ)
         → given_run result page line.new staging.new store.now
-        ≡ running (edition_of p) font.now piece.now
-        (machine p page line.old staging.old store.now) }
+        ≡ running (edition_of p) font.now piece.now (machine p page line.old staging.old store.now) }
 {
     let n = fitting(p.job, piece);
-    let pending = p.pending;
-    match pending {
+    match p.pending {
         Pending::Nothing => plain_run(p, piece, n, line, store, font),
         Pending::Payload(place, load) => payload_run(p, place, load, piece, n, staging),
-        Pending::Escape(_) => none(p),
-        Pending::Tabs(_) => none(p),
-        Pending::Reset(_) => none(p),
-        Pending::Select(_) => none(p),
-        Pending::SelectLow(_, _) => none(p),
-        Pending::CountHigh(_) => none(p),
-        Pending::CountLow(_, _) => none(p),
-        Pending::AddressHigh(_, _) => none(p),
-        Pending::AddressLow(_, _, _) => none(p),
-        Pending::Bracket(_, _) => none(p),
+        _ => none(p),
     }
 }

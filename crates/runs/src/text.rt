@@ -19,14 +19,8 @@ pub(crate) fn enters(b: u8, next: usize, w: usize) -> bool
     prints(b) && next <= w
 }
 
-// The number of a byte's glyph.
-pub(crate) fn code(b: u8) -> usize
-    ensures { result ≡ b }
-{
-    b as usize
-}
-
 // Enters characters from the glyphs given, for as many of the first n bytes of a piece as print and fit the line.
+#[tactic(auto, using(sheet::proofs::Editions::described_bounded, glyph::proofs::Cells::cell_bounds))]
 fn characters(p: Printer, piece: &[u8], n: usize, line: &mut [u16], glyphs: &[u8]) -> Ran
     requires { Typing p × (p.head.column ≤ (edition_of p).columns) × (length line.old ≡ (edition_of p).columns) × (length glyphs.now ≡ store_size)
         × (n ≡ fitting p.job piece.now) }
@@ -34,16 +28,12 @@ fn characters(p: Printer, piece: &[u8], n: usize, line: &mut [u16], glyphs: &[u8
         → given_run result page line.new staging store
         ≡ running (edition_of p) font piece.now (machine p page line.old staging store) }
 {
-    let model = p.model;
     let style = p.style;
-    let pitch = style.pitch;
-    let w = width(model, pitch);
-    let step = stride(model, pitch);
+    let w = width(p.model, style.pitch);
+    let step = stride(p.model, style.pitch);
     let each = step * cell(style.elongated);
     let mut q = p;
-    let mut k = 0;
-    while k < n {
-        let b = piece[k];
+    for (k, &b) in piece[..n].iter().enumerate() {
         let at = q.head.column;
         let next = at + each;
         if !enters(b, next, w) {
@@ -55,7 +45,7 @@ fn characters(p: Printer, piece: &[u8], n: usize, line: &mut [u16], glyphs: &[u8
         enter(
             line,
             glyphs,
-            code(b),
+            usize::from(b),
             style.elongated,
             style.underscore,
             at,
@@ -64,11 +54,10 @@ fn characters(p: Printer, piece: &[u8], n: usize, line: &mut [u16], glyphs: &[u8
         q.head.column = next;
         q.head.fresh = false;
         q.job += 1;
-        k += 1;
     }
     Ran {
         printer: q,
-        taken: k,
+        taken: n,
     }
 }
 

@@ -1,19 +1,18 @@
 -- The lines of a form and its rows, and the lengths of a blank page and an empty line.
-use Prim.Native.Nat.{ℕ, suc, ◌+◌, ◌-◌, ◌*◌, ◌/◌, ◌≤◌, ◌<◌}
-use mathlib.Core.Path.{◌∙◌, ◌≡◌, refl, sym}
+use Prim.Native.Nat.{ℕ, suc, ◌+◌, ◌-◌, ◌*◌, ◌≤◌, ◌<◌}
+use mathlib.Core.Path.{◌≡◌, refl, sym}
 use mathlib.Core.Bool.{Bool, ◌&&◌, ◌||◌, and-eq-true_iff, cond, false, true, true≢false}
 use native.Mathlib.Omega.{arith}
-use native.Mathlib.Nat.{add-mul, one-mul, mul-le-mul_left, mul-le-mul_right, div-lt_iff_lt-mul, le-div_iff_mul-le}
-use native.Mathlib.Decide.{dec_le}
+use native.Mathlib.Nat.{mul-le-mul_left, mul-le-mul_right, div-lt_iff_lt-mul, le-div_iff_mul-le}
 use lib.Dec.{eqb, leb}
 use lib.ListN.{length, length-replicate}
-use borrow.Author.Tests.{eqb-true, le-leb, leb-true, lt-leb}
+use borrow.Author.Tests.{eqb-true, le-leb, leb-true}
 use Rattle.sheet.specs.declared.Form.{Form}
 use Rattle.sheet.specs.declared.Line.{Line}
 use Rattle.sheet.specs.declared.Row.{Row}
 use Rattle.sheet.specs.Edition.{Edition, longest_page}
-use Rattle.sheet.specs.Form.{below_top, blank_page, empty_line, first_row, fits, form_rows, line_of, lines_allowed, lower, margins_allowed, new_form}
-use Rattle.sheet.specs.Form.{page_bytes, page_size, rows_per_line, spacing_allowed, top_row}
+use Rattle.sheet.specs.Form.{below_top, blank_page, empty_line, first_row, fits, form_rows, line_of, lines_allowed, lower, margins_allowed}
+use Rattle.sheet.specs.Form.{page_bytes, rows_per_line, spacing_allowed, top_row}
 
 -- a line has nine rows at least, one for each wire
 pub nine_rows : (spacing : ℕ) → 9 ≤ rows_per_line spacing
@@ -62,10 +61,6 @@ pub page_bytes-most : (e : Edition) (f : Form) → e.bytes ≤ 850 → f.lines �
 unfolding page_bytes
 page_bytes-most e f b h = omega (arith, mul-le-mul_left (form_rows f) b, form_rows-most f h)
 
--- what stands above a row can be counted where what stands through it can
-pub bytes-above : (rows bytes most : ℕ) → (rows + 1) * bytes ≤ most → rows * bytes + bytes ≤ most
-bytes-above rows bytes most h = omega (arith, h, add-mul rows 1 bytes, one-mul bytes)
-
 -- the lines of a form are no more than the longest form's
 pub lines-most : (e : Edition) (lines : ℕ) → lines_allowed e lines ≡ true → lines ≤ e.longest
 unfolding lines_allowed
@@ -78,50 +73,6 @@ margins_inside f h =
     let a = (and-eq-true_iff (leb 1 f.top.0 && leb f.top.0 f.bottom.0) (leb f.bottom.0 f.lines)).0 h in
     let b = (and-eq-true_iff (leb 1 f.top.0) (leb f.top.0 f.bottom.0)).0 a.0 in
     (leb-true _ _ b.0, omega (arith, leb-true f.top.0 f.bottom.0 b.1, leb-true f.bottom.0 f.lines a.1))
-
-module _ (e : Edition) (lines spacing : ℕ) where
-  -- the page of a form that both tests allow
-  pub page_sized : lines_allowed e lines ≡ true → spacing_allowed spacing ≡ true
-      → page_bytes e (new_form lines spacing) ≡ page_size e lines spacing
-  unfolding page_size
-  page_sized h k = simp (h, k)
-
-  -- where one of them fails there is none
-  pub lines_refused : lines_allowed e lines ≡ false → 0 ≡ page_size e lines spacing
-  unfolding page_size
-  lines_refused h = simp h
-
-  pub spacing_refused : lines_allowed e lines ≡ true → spacing_allowed spacing ≡ false → 0 ≡ page_size e lines spacing
-  unfolding page_size
-  spacing_refused h k = simp (h, k)
-
--- a line up to line 128 has its first row at 1,524 at most
-pub first_row-most : (f : Form) (n : Line) → n.0 ≤ 128 → (first_row f n).0 ≤ 1524
-unfolding first_row
-first_row-most f n h =
-    let above : n.0 - 1 ≤ 127 = omega arith in
-    omega (arith, mul-le-mul_right (rows_per_line f.spacing) above, twelve_rows f.spacing)
-
--- the line of row r is at most 1 + r ÷ 9
-pub line-most : (f : Form) (r : Row) → (line_of f r).0 ≤ 1 + r.0 / 9
-unfolding line_of
-line-most f r =
-    let rows : ℕ = rows_per_line f.spacing in
-    let nine : 9 ≤ rows = nine_rows f.spacing in
-    let below : (r.0 / 9 + 1) * 9 ≤ (r.0 / 9 + 1) * rows = mul-le-mul_left (r.0 / 9 + 1) nine in
-    omega (arith, (div-lt_iff_lt-mul {k = rows} {x = r.0} {y = r.0 / 9 + 1} (omega arith)).1 (omega arith))
-
--- that nine rows from a row on stay within some rows, tested without their sum
-pub room : (r rows : ℕ) → 9 ≤ rows → leb r (rows - 9) ≡ leb (r + 9) rows
-room r rows h = either (dec_le r (rows - 9))
-  where
-    either : Dec (r ≤ rows - 9) → leb r (rows - 9) ≡ leb (r + 9) rows
-    either (yes p) = le-leb r (rows - 9) p ∙ sym (le-leb (r + 9) rows (omega arith))
-    either (no p) = lt-leb r (rows - 9) (omega arith) ∙ sym (lt-leb (r + 9) rows (omega arith))
-
--- where there are fewer than nine rows there is no room
-pub no_room : (r rows : ℕ) → rows < 9 → leb 9 rows ≡ leb (r + 9) rows
-no_room r rows h = lt-leb 9 rows h ∙ sym (lt-leb (r + 9) rows (omega arith))
 
 -- every line down to the bottom margin can be struck at its first row
 pub line-fits : (f : Form) (n : Line) → 1 ≤ n.0 → n.0 ≤ f.bottom.0 → fits f (first_row f n) ≡ true

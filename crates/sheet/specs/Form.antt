@@ -1,5 +1,5 @@
 -- The sizes of a form, and the rules that lead from a line to a row and back.
-use Rattle.std.specs.Prelude.{ℕ, ◌+◌, ◌-◌, ◌*◌, ◌/◌, Bool, cond, ◌&&◌, ◌||◌, List, eqb, leb, replicate}
+use Rattle.std.specs.Prelude.{ℕ, ◌+◌, ◌-◌, ◌*◌, ◌/◌, ◌≤◌, Bool, cond, ◌&&◌, ◌||◌, List, eqb, leb, replicate}
 use Rattle.sheet.specs.declared.Form.{Form}
 use Rattle.sheet.specs.declared.Line.{Line}
 use Rattle.sheet.specs.declared.Row.{Row}
@@ -101,3 +101,10 @@ below_top f r = leb (top_row f).0 r.0
 -- the nine wires of a line struck at row r stay above the bottom margin's end: r + 9 ≤ N3 × R
 unfoldable pub fits : Form → Row → Bool
 fits f r = leb (r.0 + 9) (lines_through f.bottom * rows_per_line f.spacing)
+
+-- a top margin, and a form, that the code's numbers have room for
+abbrev pub TopFits : Form → Type 0
+TopFits f = (1 ≤ f.top.0) × (f.top.0 ≤ 128)
+
+abbrev pub FormFits : Form → Type 0
+FormFits f = (f.lines ≤ 112) × (1 ≤ f.top.0) × (f.top.0 ≤ 128)

@@ -44,6 +44,7 @@ pub fn rows_above(row: Row) -> usize
 }
 
 // The byte of a page that has the dot at a position of a row.
+#[tactic(auto, unfolding(crate::specs::Dots::page_byte))]
 pub fn page_byte(model: Model, row: Row, position: Grid) -> usize
     requires model_bound { (row.0 + 1) * (described model).bytes ≤ 18446744073709551615 }
     requires position_bound { position.0 ≤ 8 * (described model).bytes }

@@ -1,7 +1,9 @@
 // The sizes of a form, and the rules that lead from a line to a row and back, and from a column to the place where it stands.
+#![tactic(auto, unfolding(crate::specs::Edition::lp2, crate::specs::Edition::dg6215))]
+
 ghost use Rattle.std.specs.Prelude.{◌≤◌, ◌≡◌};
 ghost use Rattle.sheet.specs.Edition.{apart_by, described, longest_page};
-ghost use Rattle.sheet.specs.Form.{below_top, first_row, fits, form_rows, line_of};
+ghost use Rattle.sheet.specs.Form.{TopFits, below_top, first_row, fits, form_rows, line_of};
 ghost use Rattle.sheet.specs.Form.{lines_allowed, lower, margins_allowed, new_form, page_bytes, page_size};
 ghost use Rattle.sheet.specs.Form.{rows_per_line, spacing_allowed, top_row, unmargined};
 
@@ -56,20 +58,23 @@ pub fn line_numbers(model: Model) -> usize
 }
 
 // Whether a form can have so many lines.
+#[tactic(auto, unfolding(crate::specs::Form::lines_allowed))]
 pub fn lines_allowed(model: Model, lines: usize) -> bool
     ensures { result ≡ lines_allowed (described model) lines }
 {
-    1 <= lines && lines <= longest(model)
+    (1..=longest(model)).contains(&lines)
 }
 
 // Whether so many lines can stand in an inch.
+#[tactic(auto, unfolding(crate::specs::Form::spacing_allowed))]
 pub fn spacing_allowed(spacing: usize) -> bool
     ensures { result ≡ spacing_allowed spacing }
 {
-    spacing == 6 || spacing == 8
+    matches!(spacing, 6 | 8)
 }
 
 // R, the rows of a line.
+#[tactic(auto, unfolding(crate::specs::Form::rows_per_line))]
 pub fn rows_per_line(spacing: usize) -> usize
     ensures { result ≡ rows_per_line spacing }
 {
@@ -77,6 +82,7 @@ pub fn rows_per_line(spacing: usize) -> usize
 }
 
 // L × R, the rows of a form.
+#[tactic(auto, unfolding(crate::specs::Form::form_rows, crate::specs::Form::rows_per_line))]
 fn form_rows(form: Form) -> usize
     requires { form.lines ≤ 112 }
     ensures value { result ≡ form_rows form }
@@ -86,6 +92,7 @@ fn form_rows(form: Form) -> usize
 }
 
 // The bytes of a form's page.
+#[tactic(auto, unfolding(crate::specs::Edition::lp2, crate::specs::Edition::dg6215, crate::specs::Form::page_bytes))]
 pub fn page_bytes(model: Model, form: Form) -> usize
     requires { form.lines ≤ 112 }
     ensures { result ≡ page_bytes (described model) form }
@@ -94,17 +101,16 @@ pub fn page_bytes(model: Model, form: Form) -> usize
 }
 
 // The bytes of the page that so many lines at a spacing need, 0 where there is no such form.
+#[tactic(auto, unfolding(crate::specs::Edition::lp2, crate::specs::Edition::dg6215, crate::specs::Form::page_size, crate::specs::Form::lines_allowed))]
 pub fn page_size(model: Model, lines: usize, spacing: usize) -> usize
     ensures value { result ≡ page_size (described model) lines spacing }
     ensures upper_bound { result ≤ longest_page }
 {
-    if !lines_allowed(model, lines) {
-        return 0;
+    if lines_allowed(model, lines) && spacing_allowed(spacing) {
+        page_bytes(model, new_form(lines, spacing))
+    } else {
+        0
     }
-    if !spacing_allowed(spacing) {
-        return 0;
-    }
-    page_bytes(model, new_form(lines, spacing))
 }
 
 // A form just opened: its margins are its own ends.
@@ -120,27 +126,23 @@ pub fn new_form(lines: usize, spacing: usize) -> Form
 }
 
 // Whether the margins lie on the form.
+#[tactic(auto, unfolding(crate::specs::Form::margins_allowed))]
 pub fn margins_allowed(form: Form) -> bool
     ensures { result ≡ margins_allowed form }
 {
-    let top = form.top;
-    let bottom = form.bottom;
-    if top.0 < 1 {
-        return false;
-    }
-    top.0 <= bottom.0 && bottom.0 <= form.lines
+    Line(1) <= form.top && form.top <= form.bottom && form.bottom <= Line(form.lines)
 }
 
 // Whether the margins are the form's own ends.
+#[tactic(auto, unfolding(crate::specs::Form::unmargined))]
 pub fn unmargined(form: Form) -> bool
     ensures { result ≡ unmargined form }
 {
-    let top = form.top;
-    let bottom = form.bottom;
-    top.0 == 1 && bottom.0 == form.lines
+    form.top == Line(1) && form.bottom == Line(form.lines)
 }
 
 // The first row of a line.
+#[tactic(auto, unfolding(crate::specs::Form::first_row, crate::specs::Form::rows_per_line))]
 pub fn first_row(form: Form, line: Line) -> Row
     requires le_line { 1 ≤ line.0 }
     requires line_bound { line.0 ≤ 128 }
@@ -150,6 +152,7 @@ pub fn first_row(form: Form, line: Line) -> Row
 }
 
 // The line that a row lies in.
+#[tactic(auto, unfolding(crate::specs::Form::line_of, crate::specs::Form::rows_per_line))]
 pub fn line_of(form: Form, row: Row) -> Line
     ensures { result ≡ line_of form row }
 {
@@ -166,29 +169,30 @@ pub fn lower(row: Row, rows: usize) -> Row
 }
 
 // The row that a form starts at.
+#[tactic(auto, unfolding(crate::specs::Form::top_row))]
 pub fn top_row(form: Form) -> Row
-    requires { (1 ≤ form.top.0) × (form.top.0 ≤ 128) }
+    requires { TopFits form }
     ensures { result ≡ top_row form }
 {
-    let top = form.top;
-    first_row(form, top)
+    first_row(form, form.top)
 }
 
 // Whether a row is none above the top margin.
+#[tactic(auto, unfolding(crate::specs::Form::below_top))]
 pub fn below_top(form: Form, row: Row) -> bool
-    requires { (1 ≤ form.top.0) × (form.top.0 ≤ 128) }
+    requires { TopFits form }
     ensures { result ≡ below_top form row }
 {
-    top_row(form).0 <= row.0
+    top_row(form) <= row
 }
 
 // Whether the nine wires of a line struck at a row stay above the bottom margin's end.
+#[tactic(auto, unfolding(crate::specs::Form::fits, crate::specs::Form::rows_per_line))]
 pub fn fits(form: Form, row: Row) -> bool
     requires { form.bottom.0 ≤ 112 }
     ensures { result ≡ fits form row }
 {
-    let bottom = form.bottom;
-    let rows = bottom.0 * rows_per_line(form.spacing);
+    let rows = form.bottom.0 * rows_per_line(form.spacing);
     9 <= rows && row.0 <= rows - 9
 }
 
@@ -196,20 +200,14 @@ pub fn fits(form: Form, row: Row) -> bool
 pub fn mixed(model: Model) -> bool
     ensures { result ≡ (described model).mixed }
 {
-    match model {
-        Model::Lp2 => false,
-        Model::Dg6215 => true,
-    }
+    model == Model::Dg6215
 }
 
 // Whether ESC [ begins a command.
 pub fn brackets(model: Model) -> bool
     ensures { result ≡ (described model).brackets }
 {
-    match model {
-        Model::Lp2 => false,
-        Model::Dg6215 => true,
-    }
+    model == Model::Dg6215
 }
 
 // W, the positions of a text line.

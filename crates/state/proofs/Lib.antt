@@ -1,4 +1,5 @@
--- What a call gave: tests one after the other, states to go on from, and a sound state closed.
-pub mod Closed
+-- Which way a choice goes, and a rule obeyed from a state that a call gave; sound forms, and the bits of a word.
+pub mod Forms
 pub mod Going
 pub mod Tests
+pub mod Words

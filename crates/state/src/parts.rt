@@ -1,5 +1,6 @@
 // One part of the state changed, and what came of a byte.
 ghost use Rattle.std.specs.Prelude.{◌≡◌, ◌≤◌};
+ghost use Rattle.sheet.specs.Form.{FormFits};
 ghost use Rattle.printer.specs.declared.Event.TheVariants.{Quiet, Finished, Noted};
 ghost use Rattle.printer.specs.Brackets.{reformed};
 ghost use Rattle.printer.specs.Escapes.{after_reset, begin_plot, clear_tabs, set_downloaded, set_elongated, set_pitch, set_underscore};
@@ -47,30 +48,19 @@ pub fn noted(p: Printer, fault: Fault, place: u32) -> Stepped
 pub fn with_pending(p: Printer, next: Pending) -> Printer
     ensures { result ≡ (with_pending next (bare p)).printer }
 {
-    let model = p.model;
-    let form = p.form;
-    let head = p.head;
-    let style = p.style;
-    let tabs = p.tabs;
-    Printer {
-        model,
-        form,
-        job: p.job,
-        pending: next,
-        head,
-        style,
-        tabs,
-    }
+    Printer { pending: next, ..p }
 }
 
 // The head at a column, on a line that is no longer fresh.
 pub fn moved_to(p: Printer, column: usize) -> Printer
     ensures { result ≡ (with_head (moved_to column p.head) (bare p)).printer }
 {
-    let mut q = p;
-    q.head.column = column;
-    q.head.fresh = false;
-    q
+    let head = Head {
+        column,
+        fresh: false,
+        ..p.head
+    };
+    Printer { head, ..p }
 }
 
 // The head on a fresh line at a row.
@@ -84,101 +74,96 @@ pub fn fresh(p: Printer, row: Row) -> Printer
         plotted: false,
         plotting: false,
     };
-    let mut q = p;
-    q.head = head;
-    q
+    Printer { head, ..p }
 }
 
 pub fn set_elongated(p: Printer, on: bool) -> Printer
     ensures { result ≡ (set_elongated on (bare p)).printer }
 {
-    let mut q = p;
-    q.style.elongated = on;
-    q
+    let style = Style {
+        elongated: on,
+        ..p.style
+    };
+    Printer { style, ..p }
 }
 
 pub fn set_underscore(p: Printer, on: bool) -> Printer
     ensures { result ≡ (set_underscore on (bare p)).printer }
 {
-    let mut q = p;
-    q.style.underscore = on;
-    q
+    let style = Style {
+        underscore: on,
+        ..p.style
+    };
+    Printer { style, ..p }
 }
 
 pub fn set_downloaded(p: Printer, on: bool) -> Printer
     ensures { result ≡ (set_downloaded on (bare p)).printer }
 {
-    let mut q = p;
-    q.style.downloaded = on;
-    q
+    let style = Style {
+        downloaded: on,
+        ..p.style
+    };
+    Printer { style, ..p }
 }
 
 pub fn set_pitch(p: Printer, pitch: Pitch) -> Printer
     ensures { result ≡ (set_pitch pitch (bare p)).printer }
 {
-    let old = p.style;
-    let style = Style {
-        pitch,
-        elongated: old.elongated,
-        underscore: old.underscore,
-        downloaded: old.downloaded,
-    };
-    let mut q = p;
-    q.style = style;
-    q
+    let style = Style { pitch, ..p.style };
+    Printer { style, ..p }
 }
 
 pub fn begin_plot(p: Printer) -> Printer
     ensures { result ≡ (begin_plot (bare p)).printer }
 {
-    let mut q = p;
-    q.head.fresh = false;
-    q.head.plotted = true;
-    q.head.plotting = true;
-    q
+    let head = Head {
+        fresh: false,
+        plotted: true,
+        plotting: true,
+        ..p.head
+    };
+    Printer { head, ..p }
 }
 
 pub fn leave_plot(p: Printer) -> Printer
     ensures { result ≡ (leave_plot (bare p)).printer }
 {
-    let mut q = p;
-    q.head.plotting = false;
-    q
+    let head = Head {
+        plotting: false,
+        ..p.head
+    };
+    Printer { head, ..p }
 }
 
+#[tactic(auto, unfolding(printer::specs::Escapes::clear_tabs, printer::specs::Tabs::no_tabs))]
 pub fn clear_tabs(p: Printer) -> Printer
     ensures { result ≡ (clear_tabs (bare p)).printer }
 {
-    let none = TabSet { low: 0, high: 0 };
-    let mut q = p;
-    q.tabs = none;
-    q
+    let tabs = TabSet { low: 0, high: 0 };
+    Printer { tabs, ..p }
 }
 
 // Another form: the head on a fresh line at its first row, and no tab past its length.
+#[tactic(auto, unfolding(printer::specs::Brackets::reformed))]
 pub fn reformed(p: Printer, form: Form) -> Printer
-    requires { (form.lines ≤ 112) × (1 ≤ form.top.0) × (form.top.0 ≤ 128) }
+    requires { FormFits form }
     ensures { result ≡ (reformed form (bare p)).printer }
 {
     let tabs = tabs_through(p.tabs, form.lines);
-    let mut q = p;
-    q.form = form;
-    q.tabs = tabs;
-    fresh(q, top_row(form))
+    fresh(Printer { form, tabs, ..p }, top_row(form))
 }
 
 // The state after a reset: a fresh line at the same row, normal pitch, no feature and no tab.
+#[tactic(auto, unfolding(printer::specs::Escapes::after_reset, printer::specs::Escapes::clear_tabs))]
 pub fn after_reset(p: Printer) -> Printer
     ensures { result ≡ (after_reset (edition_of p) (bare p)).printer }
 {
-    let row = p.head.row;
     let style = Style {
         pitch: Pitch::Normal,
         elongated: false,
         underscore: false,
         downloaded: false,
     };
-    let mut q = clear_tabs(fresh(p, row));
-    q.style = style;
-    q
+    clear_tabs(fresh(Printer { style, ..p }, p.head.row))
 }

@@ -6,33 +6,34 @@ ghost use Rattle.printer.specs.Machine.{edition_of};
 ghost use Rattle.printer.specs.Sound.{at_most_escape, begun, form_sound, fresh_sound, load_sound, place_sound, plot_sound, sound, tabs_sound};
 ghost use Rattle.printer.specs.Tabs.{line_tabs};
 
-use printer::{Begun, Closing, Head, Pending, Printer};
+use printer::{Closing, Head, Pending, Printer};
 use sheet::sizes::{
     below_top, brackets, fits, lines_allowed, margins_allowed, spacing_allowed, unmargined, width,
 };
 use sheet::{Form, Model};
 
 // Where the pending command began.
-fn begun(pending: Pending) -> Begun
+fn begun(pending: Pending) -> Option<u32>
     ensures { result ≡ begun pending }
 {
     match pending {
-        Pending::Nothing => Begun::Nowhere,
-        Pending::Escape(place) => Begun::At(place),
-        Pending::Tabs(place) => Begun::At(place),
-        Pending::Reset(place) => Begun::At(place),
-        Pending::Select(place) => Begun::At(place),
-        Pending::SelectLow(place, _) => Begun::At(place),
-        Pending::CountHigh(place) => Begun::At(place),
-        Pending::CountLow(place, _) => Begun::At(place),
-        Pending::AddressHigh(place, _) => Begun::At(place),
-        Pending::AddressLow(place, _, _) => Begun::At(place),
-        Pending::Payload(place, _) => Begun::At(place),
-        Pending::Bracket(place, _) => Begun::At(place),
+        Pending::Nothing => None,
+        Pending::Escape(place)
+        | Pending::Tabs(place)
+        | Pending::Reset(place)
+        | Pending::Select(place)
+        | Pending::SelectLow(place, _)
+        | Pending::CountHigh(place)
+        | Pending::CountLow(place, _)
+        | Pending::AddressHigh(place, _)
+        | Pending::AddressLow(place, _, _)
+        | Pending::Payload(place, _)
+        | Pending::Bracket(place, _) => Some(place),
     }
 }
 
 // L and the spacing are in range and the margins lie on the form; where the form can't change they are its own ends.
+#[tactic(auto, unfolding(printer::specs::Sound::form_sound))]
 pub fn form_sound(model: Model, form: Form) -> bool
     ensures { result ≡ form_sound (described model) form }
 {
@@ -49,6 +50,7 @@ pub fn form_sound(model: Model, form: Form) -> bool
 }
 
 // Tabs lie on lines of the form.
+#[tactic(auto, using(printer::proofs::TabBits::untabbed_low, printer::proofs::TabBits::untabbed_high, printer::proofs::TabBits::untabbed_past), unfolding(printer::specs::Sound::tabs_sound))]
 fn tabs_sound(p: Printer) -> bool
     ensures { result ≡ tabs_sound p.form (line_tabs p.tabs) }
 {
@@ -70,30 +72,22 @@ fn load_sound(model: Model, pending: Pending) -> bool
     match pending {
         Pending::Payload(_, load) => load.taken <= load.count,
         Pending::Bracket(_, _) => brackets(model),
-        Pending::Nothing => true,
-        Pending::Escape(_) => true,
-        Pending::Tabs(_) => true,
-        Pending::Reset(_) => true,
-        Pending::Select(_) => true,
-        Pending::SelectLow(_, _) => true,
-        Pending::CountHigh(_) => true,
-        Pending::CountLow(_, _) => true,
-        Pending::AddressHigh(_, _) => true,
-        Pending::AddressLow(_, _, _) => true,
+        _ => true,
     }
 }
 
 // A started command's place is below the job length.
-fn place_sound(job: u32, started: Begun) -> bool
+fn place_sound(job: u32, started: Option<u32>) -> bool
     ensures { result ≡ place_sound job started }
 {
     match started {
-        Begun::Nowhere => true,
-        Begun::At(place) => place < job,
+        None => true,
+        Some(place) => place < job,
     }
 }
 
 // A fresh line is at column 0 and no plot line.
+#[tactic(auto, unfolding(printer::specs::Sound::fresh_sound))]
 fn fresh_sound(head: Head) -> bool
     ensures { result ≡ fresh_sound head }
 {
@@ -104,23 +98,11 @@ fn fresh_sound(head: Head) -> bool
 fn at_most_escape(pending: Pending) -> bool
     ensures { result ≡ at_most_escape pending }
 {
-    match pending {
-        Pending::Nothing => true,
-        Pending::Escape(_) => true,
-        Pending::Tabs(_) => false,
-        Pending::Reset(_) => false,
-        Pending::Select(_) => false,
-        Pending::SelectLow(_, _) => false,
-        Pending::CountHigh(_) => false,
-        Pending::CountLow(_, _) => false,
-        Pending::AddressHigh(_, _) => false,
-        Pending::AddressLow(_, _, _) => false,
-        Pending::Payload(_, _) => false,
-        Pending::Bracket(_, _) => false,
-    }
+    matches!(pending, Pending::Nothing | Pending::Escape(_))
 }
 
 // Plot mode holds only on a plot line, with no command begun but a lone ESC.
+#[tactic(auto, unfolding(printer::specs::Sound::plot_sound))]
 fn plot_sound(head: Head, pending: Pending) -> bool
     ensures { result ≡ plot_sound head pending }
 {
@@ -128,6 +110,7 @@ fn plot_sound(head: Head, pending: Pending) -> bool
 }
 
 // A state that bytes may be fed to, where its form is sound.
+#[tactic(auto, using(crate::proofs::Forms::tested_bounded), unfolding(printer::specs::Sound::sound))]
 pub fn rest_sound(p: Printer) -> bool
     requires { form_sound (edition_of p) p.form ≡ true }
     ensures { result ≡ sound (edition_of p) p }
@@ -163,6 +146,7 @@ pub fn rest_sound(p: Printer) -> bool
 }
 
 // A state that bytes may be fed to.
+#[tactic(auto, unfolding(printer::specs::Sound::sound))]
 pub fn sound(p: Printer) -> bool
     ensures { result ≡ sound (edition_of p) p }
 {
@@ -175,6 +159,7 @@ pub fn sound(p: Printer) -> bool
 }
 
 // What is said of a job that is closed in this state.
+#[tactic(auto, unfolding(printer::specs::Closing::closing, printer::specs::Closing::close_command, printer::specs::Closing::close_line))]
 pub fn closing(p: Printer) -> Closing
     ensures { result ≡ closing (edition_of p) p }
 {
@@ -183,8 +168,8 @@ pub fn closing(p: Printer) -> Closing
     }
     let pending = p.pending;
     match begun(pending) {
-        Begun::At(place) => Closing::Unfinished(place),
-        Begun::Nowhere => {
+        Some(place) => Closing::Unfinished(place),
+        None => {
             if p.head.fresh {
                 Closing::Clean
             } else {

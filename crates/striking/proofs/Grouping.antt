@@ -3,12 +3,12 @@ use Prim.Native.Nat.{ℕ, zero, suc, ◌+◌, ◌-◌, ◌*◌, ◌/◌, ◌%◌
 use mathlib.Core.Path.{◌≡◌, refl, sym, ap, ap₂, ◌∙◌}
 use mathlib.Core.List.{List, [], ◌∷◌, ◌++◌}
 use native.Mathlib.Omega.{arith}
-use native.Mathlib.Nat.{mul_comm, pow-suc, add-zero, zero-add, add_comm, zero-mul, suc-mul, mul-le-mul_left, mul-le-mul_right, mod-lt}
+use native.Mathlib.Nat.{mul_comm, pow-suc, add-zero, zero-add, add_comm, zero-mul, suc-mul, mul-le-mul_left, mul-le-mul_right, mod-lt, mod-eq_of_lt, one-mul}
 use native.Mathlib.Numerals.{add-one}
 use lib.Pow.{pow-add, pow_mono, pow_pos, pow-lt, shr-shr, split, high, low, field, mod-mod-pow}
-use lib.Bits.{bit_and, bit_or, or_add_and, and_le_l, and_le_r, and_zero_r, and_block, and_mask}
+use lib.Bits.{bit_and, bit_or, or_zero_r, or_add_and, and_le_l, and_le_r, and_zero_r, and_block, and_mask}
 use lib.ListN.{length, get_or, take, drop, drop_of_length-le, length-drop}
-use lib.Seq.{drop-cons, drop-length, get_or-take, get_or-drop, length-take-le}
+use lib.Seq.{drop-cons, get_or-take, get_or-drop, length-take-le}
 use mir.Syntax.{w64}
 use mir.Val.{Fits}
 use Rattle.sheet.specs.declared.Grid.{Grid}
@@ -19,7 +19,7 @@ use Rattle.sheet.specs.Form.{lower}
 use Rattle.sheet.specs.Dots.{bit, blacken_all, mark_if, dot_at, wire_marks, column_marks, line_marks}
 use Rattle.striking.specs.Groups.{any_wires, fields, ones, wire_dots, join}
 use Rattle.sheet.proofs.AnyOrder.{blacken_all_swap}
-use Rattle.sheet.proofs.Bits.{bit_lt}
+use Rattle.sheet.proofs.Bits.{bit_lt, or_assoc}
 use Rattle.sheet.proofs.Blackening.{blacken_all-append, mark_first}
 use Rattle.sheet.proofs.Marks.{no_wires}
 use Rattle.striking.proofs.Joining.{bit_marks, bit-marks-moved, bit-marks-last, joined}
@@ -189,8 +189,8 @@ module _ (e : Edition) where
       ∙ sym (blacken_all-append page (wire_marks e 9 x r g) (line_marks e xs pitch r (c + 1)))
 
 -- a masked number moved left stays within 64 bits where the mask does
-pub masked-fits : (x mask up : ℕ) → mask * up < 2 ^ 64 → Fits w64 (bit_and x mask * up)
-masked-fits x mask up h = omega (arith, mul-le-mul_right up (and_le_r x mask))
+pub masked_fits : (x mask up : ℕ) → mask * up < 2 ^ 64 → Fits w64 (bit_and x mask * up)
+masked_fits x mask up h = omega (arith, mul-le-mul_right up (and_le_r x mask))
 
 -- an `or` that is 0 is of two numbers that are
 pub or_none : (a b : ℕ) → bit_or a b ≡ 0 → (a ≡ 0) × (b ≡ 0)
@@ -222,55 +222,41 @@ part_long line c n inside = length-take-le n (drop c line) (omega (arith, length
 pub part_at : (line : List ℕ) (c n k : ℕ) → k < n → get_or (take n (drop c line)) k 0 ≡ get_or line (c + k) 0
 part_at line c n k h = get_or-take n (drop c line) k 0 h ∙ get_or-drop c line k 0
 
-module _ (line : List ℕ) (c : ℕ) (inside : c + 8 ≤ length line) where
-  -- eight columns are eight
-  pub eight_long : length (take 8 (drop c line)) ≡ 8
-  eight_long = part_long line c 8 inside
-
-  -- column k of the eight is put below the fields
-  pub field_more : (base skip k f all : ℕ) → k < 8 → fields base skip (drop k (take 8 (drop c line))) f ≡ all
-      → fields base skip (drop (k + 1) (take 8 (drop c line))) (f * base + get_or line (c + k) 0 / 2 ^ skip % base) ≡ all
+module _ (columns : List ℕ) where
+  -- column k is put below the fields
+  pub field_more : (base skip k f all : ℕ) → k < length columns → fields base skip (drop k columns) f ≡ all
+      → fields base skip (drop (k + 1) columns) (f * base + get_or columns k 0 / 2 ^ skip % base) ≡ all
   unfolding fields
   field_more base skip k f all h so_far =
-      let eight : List ℕ = take 8 (drop c line) in
-      let within : k < length eight = omega (arith, eight_long) in
-      let first : drop k eight ≡ get_or eight k 0 ∷ drop (k + 1) eight = rw (add-one, drop-cons eight k 0) in
-      ap (λ (x : ℕ). fields base skip (drop (k + 1) eight) (f * base + x / 2 ^ skip % base)) (sym (part_at line c 8 k h))
-      ∙ ap (λ (l : List ℕ). fields base skip l f) (sym first)
-      ∙ so_far
+      let first : drop k columns ≡ get_or columns k 0 ∷ drop (k + 1) columns = rw (add-one, drop-cons columns k 0) in
+      ap (λ (l : List ℕ). fields base skip l f) (sym first) ∙ so_far
 
-  -- after the eighth column the fields are whole
-  pub field_last : (base skip k f all : ℕ) → k ≡ 8 → fields base skip (drop k (take 8 (drop c line))) f ≡ all → f ≡ all
+  -- after the last column the fields are whole
+  pub field_last : (base skip k f all : ℕ) → length columns ≤ k → fields base skip (drop k columns) f ≡ all → f ≡ all
   unfolding fields
-  field_last base skip k f all e so_far =
-      let eight : List ℕ = take 8 (drop c line) in
-      let none : drop k eight ≡ [] = ap (λ (n : ℕ). drop n eight) (e ∙ sym eight_long) ∙ drop-length eight in
-      ap (λ (l : List ℕ). fields base skip l f) (sym none) ∙ so_far
+  field_last base skip k f all end so_far = ap (λ (l : List ℕ). fields base skip l f) (sym (drop_of_length-le columns end)) ∙ so_far
 
-module _ (line : List ℕ) (c n : ℕ) (inside : c + n ≤ length line) where
-  -- behind the last column there is none
-  pub any_none : 0 ≡ any_wires (drop n (take n (drop c line)))
+  -- column k is joined to the wires of those before it
+  pub any_more : (k any all : ℕ) → k < length columns → bit_or any (any_wires (drop k columns)) ≡ all
+      → bit_or (bit_or any (get_or columns k 0)) (any_wires (drop (k + 1) columns)) ≡ all
   unfolding any_wires
-  any_none =
-      let all : length (take n (drop c line)) ≤ n = omega (arith, part_long line c n inside) in
-      ap any_wires (sym (drop_of_length-le (take n (drop c line)) all))
+  any_more k any all h so_far =
+      let first : drop k columns ≡ get_or columns k 0 ∷ drop (k + 1) columns = rw (add-one, drop-cons columns k 0) in
+      or_assoc any (get_or columns k 0) (any_wires (drop (k + 1) columns)) ∙ ap (λ (l : List ℕ). bit_or any (any_wires l)) (sym first) ∙ so_far
 
-  -- the column before column k is joined to the wires of those from k on
-  pub any_more : (k any : ℕ) → 0 < k → k ≤ n → any ≡ any_wires (drop k (take n (drop c line)))
-      → bit_or (get_or line (c + (k - 1)) 0) any ≡ any_wires (drop (k - 1) (take n (drop c line)))
+  -- after the last column there are all
+  pub any_last : (k any all : ℕ) → length columns ≤ k → bit_or any (any_wires (drop k columns)) ≡ all → any ≡ all
   unfolding any_wires
-  any_more k any h most so_far =
-      let some : List ℕ = take n (drop c line) in
-      let within : k - 1 < length some = omega (arith, part_long line c n inside) in
-      let same : suc (k - 1) ≡ k = omega arith in
-      let first : drop (k - 1) some ≡ get_or some (k - 1) 0 ∷ drop k some =
-      drop-cons some (k - 1) 0 within ∙ ap (λ (i : ℕ). get_or some (k - 1) 0 ∷ drop i some) same in
-      ap₂ bit_or (sym (part_at line c n (k - 1) (omega arith))) so_far ∙ ap any_wires (sym first)
+  any_last k any all end so_far =
+      sym (or_zero_r any) ∙ ap (λ (l : List ℕ). bit_or any (any_wires l)) (sym (drop_of_length-le columns end)) ∙ so_far
 
-  -- from column 0 on there are all
-  pub any_all : (k any : ℕ) → k ≤ 0 → any ≡ any_wires (drop k (take n (drop c line))) → any ≡ any_wires (take n (drop c line))
-  any_all zero any h so_far = so_far
-  any_all (suc k) any h so_far = absurd (omega arith)
+-- five bits hold 32 numbers
+pub five_bits : (n : ℕ) → n ≤ 5 → 2 ^ n ≤ 32
+five_bits n most = pow_mono {i = n} {j = 5} most
+
+-- a 1 moved left by five bits at most
+pub one_moved : (n : ℕ) → n ≤ 5 → 1 * 2 ^ n % 2 ^ 64 ≡ 2 ^ n
+one_moved n h = let low : 1 * 2 ^ n < 2 ^ 64 = omega (arith, pow_mono {i = n} {j = 5} h) in mod-eq_of_lt low ∙ one-mul (2 ^ n)
 
 -- a field more takes five bits more at most
 pub field_below : (f base y k : ℕ) → base ≤ 32 → y < base → f < 2 ^ (5 * k) → f * base + y < 2 ^ (5 * (k + 1))
@@ -284,3 +270,13 @@ pub fields-small : (f base y k : ℕ) → base ≤ 32 → y < base → f < 2 ^ (
 fields-small f base y k h l below more =
     let most : 2 ^ (5 * (k + 1)) ≤ 2 ^ 40 = pow_mono {j = 40} (omega arith) in
     omega (arith, field_below f base y k h l below)
+
+-- a masked number of forty bits moved left by four at most, to the top of its field
+pub field_top : (x mask n : ℕ) → 1 ≤ n → n ≤ 5 → mask < 2 ^ 40 → bit_and x mask * 2 ^ (n - 1) % 2 ^ 64 ≡ bit_and x mask * (2 ^ n / 2)
+field_top x mask zero some most small = absurd (omega arith)
+field_top x mask (suc z) some most small =
+    let top : 2 ^ suc z / 2 ≡ 2 ^ z = omega (arith, pow-suc 2 z) in
+    let few : 2 ^ z ≤ 16 = pow_mono {i = z} {j = 4} (omega arith) in
+    let fits : bit_and x mask * 2 ^ z < 2 ^ 64 = omega (arith, and_le_r x mask, mul-le-mul_left (bit_and x mask) few) in
+    let last : suc z - 1 ≡ z = omega arith in
+    ap (λ (k : ℕ). bit_and x mask * 2 ^ k % 2 ^ 64) last ∙ mod-eq_of_lt fits ∙ ap (λ (k : ℕ). bit_and x mask * k) (sym top)

@@ -1,6 +1,6 @@
 -- The columns of a line struck some at a time, and where those struck at once stand on the page.
 use Prim.Native.Nat.{ℕ, ◌+◌, ◌*◌, ◌/◌, ◌%◌, ◌≤◌, ◌<◌}
-use mathlib.Core.Path.{◌≡◌, refl, sym, ap, ap₂, ◌∙◌}
+use mathlib.Core.Path.{◌≡◌, sym, ap, ap₂, ◌∙◌}
 use mathlib.Core.List.{List, [], ◌∷◌, ◌++◌, append_assoc}
 use native.Mathlib.Omega.{arith}
 use native.Mathlib.Nat.{add-zero, zero-add, mul_assoc}
@@ -97,11 +97,6 @@ pub record Left (e : Edition) (columns : List ℕ) (pitch : Pitch) (r : Row) (c 
   pub kept : length page ≡ length entry
 
 module _ (e : Edition) (columns : List ℕ) (pitch : Pitch) (r : Row) (c : ℕ) (entry : List ℕ) where
-  -- before the first all are left
-  pub all_left : Left e columns pitch r c entry 0 entry
-  all_left =
-      record { same = ap (λ (k : ℕ). blacken_all entry (line_marks e columns pitch r k)) (add-zero c); within = omega arith; kept = refl }
-
   -- once the m columns that are next are struck, those after them are left
   pub some_struck : (page next : List ℕ) (n m : ℕ) → n + m ≤ length columns → Left e columns pitch r c entry n page
       → next ≡ blacken_all page (line_marks e (take m (drop n columns)) pitch r (c + n)) → Left e columns pitch r c entry (n + m) next
@@ -155,19 +150,12 @@ together_next : (w : Model) (c : ℕ) → c % together w ≡ 0 → (c + together
 together_next Lp2 c h = omega arith
 together_next Dg6215 c h = omega arith
 
-together_none : (w : Model) → 0 % together w ≡ 0
-together_none Lp2 = refl
-together_none Dg6215 = refl
-
 -- The positions before c of a line are struck, so many at a time.
 pub record Walked (w : Model) (line : List ℕ) (pitch : Pitch) (r : Row) (entry : List ℕ) (c : ℕ) (page : List ℕ) : Type 0 where
   pub left : Left (described w) (take ((described w).width pitch) line) pitch r 0 entry c page
   pub whole : c % together w ≡ 0
 
 module _ (w : Model) (line : List ℕ) (pitch : Pitch) (r : Row) (entry : List ℕ) where
-  pub none_walked : Walked w line pitch r entry 0 entry
-  none_walked = record { left = all_left _ _ _ _ _ _; whole = together_none w }
-
   -- so many positions more
   pub walked_more : (page next : List ℕ) (c : ℕ) → length line ≡ (described w).columns → Walked w line pitch r entry c page
       → c < (described w).width pitch → next ≡ blacken_all page (line_marks (described w) (take (together w) (drop c line)) pitch r c)
@@ -205,9 +193,6 @@ pub record EightyLeft (line : List ℕ) (pitch : Pitch) (r : Row) (c : ℕ) (ent
   pub whole : k % 16 ≡ 0
 
 module _ (line : List ℕ) (pitch : Pitch) (r : Row) (c : ℕ) (entry : List ℕ) (inside : c + 80 ≤ length line) where
-  pub eighty_left : EightyLeft line pitch r c entry 0 entry
-  eighty_left = record { left = all_left _ _ _ _ _ _; whole = refl }
-
   -- sixteen positions more
   pub sixteen_more : (page next : List ℕ) (k : ℕ) → EightyLeft line pitch r c entry k page → k < 80
       → next ≡ blacken_all page (line_marks dg6215 (take 16 (drop (c + k) line)) pitch r (c + k)) → EightyLeft line pitch r c entry (k + 16) next

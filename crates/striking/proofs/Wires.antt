@@ -1,9 +1,9 @@
 -- The nine wires of some columns, joined to a page one after the other, each a row below the one before.
-use Prim.Native.Nat.{ℕ, zero, suc, ◌+◌, ◌-◌, ◌*◌, ◌/◌, ◌%◌, ◌^◌, ◌<◌}
-use mathlib.Core.Path.{◌≡◌, refl, sym, ap, ap₂, ◌∙◌}
+use Prim.Native.Nat.{ℕ, zero, suc, ◌+◌, ◌-◌, ◌*◌, ◌/◌, ◌%◌, ◌^◌, ◌≤◌, ◌<◌}
+use mathlib.Core.Path.{◌≡◌, refl, sym, subst, ap, ap₂, ◌∙◌}
 use mathlib.Core.List.{List, [], ◌∷◌}
 use native.Mathlib.Omega.{arith}
-use native.Mathlib.Nat.{zero-add, mod-lt, div-add-mod', div-lt_iff_lt-mul}
+use native.Mathlib.Nat.{mod-lt, div-add-mod', div-lt_iff_lt-mul}
 use lib.ListN.{length, get_or}
 use Rattle.sheet.specs.declared.Pitch.{Pitch}
 use Rattle.sheet.specs.declared.Pitch.TheVariants.{Normal, Compressed}
@@ -12,7 +12,6 @@ use Rattle.sheet.specs.Edition.{Edition, apart_by, lp2}
 use Rattle.sheet.specs.Dots.{blacken_all, dot_at, line_marks}
 use Rattle.striking.specs.Groups.{fields, wire_dots, join}
 use Rattle.sheet.proofs.Blackening.{blacken_all-append}
-use Rattle.striking.proofs.Joining.{length-join}
 use Rattle.striking.proofs.Grouping.{wire_row, wire-joined, rows, rows_line}
 
 -- byte `at`, n rows lower: by clauses, so that with numbers for n it is what the code writes
@@ -21,7 +20,7 @@ row_at e at zero = at
 row_at e at (suc n) = at + suc n * e.bytes
 
 -- a row is so many bytes
-row_is : (e : Edition) (at n : ℕ) → row_at e at n ≡ at + n * e.bytes
+pub row_is : (e : Edition) (at n : ℕ) → row_at e at n ≡ at + n * e.bytes
 unfolding row_at
 row_is e at zero = omega arith
 row_is e at (suc n) = refl
@@ -46,12 +45,6 @@ module _ (e : Edition) (m : ℕ) (dots : ℕ → ℕ) (at : ℕ) (page : List �
       → i ≡ join h (at + 7 * e.bytes) m (dots 1) → i ≡ wired e m dots at page 8
   unfolding wired row_at
   eight_wired p q r s t u v w = cc
-
-  -- the page keeps its length
-  pub length_wired : (n : ℕ) → length (wired e m dots at page n) ≡ length page
-  unfolding wired
-  length_wired zero = refl
-  length_wired (suc n) = length-join (wired e m dots at page n) _ _ _ ∙ length_wired n
 
   -- Each number joined strikes its wire of some columns, whose dots are s apart.
   abbrev pub Strikes : List ℕ → ℕ → Type 0
@@ -82,48 +75,43 @@ module _ (e : Edition) (m : ℕ) (dots : ℕ → ℕ) (at : ℕ) (page : List �
     unfolding rows blacken_all
     nine_wired pitch r c apart place = wires_left 9 0 (omega arith) ∙ rows_line e pitch s apart page columns r c (at * 8) place
 
--- the dots of the wire at bit n: each of the numbers `held` holds suc z wires, the first the lowest
+-- the dots of the wire at bit n: each of the numbers `held` holds s wires, the first the lowest
 abbrev pub wire_of : ℕ → List ℕ → ℕ → ℕ
-wire_of z held n = wire_dots (2 ^ suc z) (get_or held (n / suc z) 0) (n % suc z)
+wire_of s held n = wire_dots (2 ^ s) (get_or held (n / s) 0) (n % s)
 
--- some numbers are the fields of some columns, from field i on
-abbrev pub Held : ℕ → List ℕ → ℕ → List ℕ → Type 0
-Held z columns i [] = Unit {0}
-Held z columns i (f ∷ fs) = (f ≡ fields (2 ^ suc z) (i * suc z) columns 0) × Held z columns (i + 1) fs
+-- three numbers hold some columns: number k has, in fields of s bits, those from bit k * s on
+abbrev pub Held : ℕ → List ℕ → List ℕ → Type 0
+Held s columns held = (k : ℕ) → k < 3 → get_or held k 0 ≡ fields (2 ^ s) (k * s) columns 0
 
--- so number k of them is field i + k
-held_at : (z : ℕ) (columns : List ℕ) (i : ℕ) (held : List ℕ) (k : ℕ) → Held z columns i held → k < length held
-    → get_or held k 0 ≡ fields (2 ^ suc z) ((i + k) * suc z) columns 0
-held_at z columns i [] k h l = absurd (omega arith)
-held_at z columns i (f ∷ fs) zero h l = h.0 ∙ ap (λ (n : ℕ). fields (2 ^ suc z) (n * suc z) columns 0) (omega arith)
-held_at z columns i (f ∷ fs) (suc k) h l =
-    let count : i + 1 + k ≡ i + suc k = omega arith in
-    held_at z columns (i + 1) fs k h.1 (omega arith) ∙ ap (λ (n : ℕ). fields (2 ^ suc z) (n * suc z) columns 0) count
+pub three_held : (s : ℕ) {low middle high : ℕ} (columns : List ℕ) → low ≡ fields (2 ^ s) 0 columns 0 → middle ≡ fields (2 ^ s) s columns 0
+    → high ≡ fields (2 ^ s) (2 * s) columns 0 → Held s columns (low ∷ middle ∷ high ∷ [])
+three_held s columns l m h zero below = l ∙ ap (λ (n : ℕ). fields (2 ^ s) n columns 0) (omega arith)
+three_held s columns l m h (suc zero) below = m ∙ ap (λ (n : ℕ). fields (2 ^ s) n columns 0) (omega arith)
+three_held s columns l m h (suc (suc zero)) below = h
+three_held s columns l m h (suc (suc (suc k))) below = absurd (omega arith)
 
 -- the dots of a wire of eight columns, held by the numbers, strike that wire
-held_strikes : (z : ℕ) (held columns : List ℕ) → length columns ≡ 8 → 8 < length held * suc z → Held z columns 0 held
-    → (before : List ℕ) (i n : ℕ) → n < 9 → join before i (suc z) (wire_of z held n) ≡ blacken_all before (wire_row n columns (i * 8) (suc z))
-held_strikes z held columns eight many holds before i n l =
+held_strikes : (z : ℕ) (held columns : List ℕ) → 2 ≤ z → length columns ≡ 8 → Held (suc z) columns held
+    → (before : List ℕ) (i n : ℕ) → n < 9 → join before i (suc z) (wire_of (suc z) held n) ≡ blacken_all before (wire_row n columns (i * 8) (suc z))
+held_strikes z held columns two eight holds before i n l =
     let which : ℕ = n / suc z in
-    let inside : which < length held = (div-lt_iff_lt-mul {k = suc z} (omega arith)).1 (omega arith) in
-    let holds_it : get_or held which 0 ≡ fields (2 ^ suc z) (which * suc z) columns 0 =
-    held_at z columns 0 held which holds inside ∙ ap (λ (k : ℕ). fields (2 ^ suc z) (k * suc z) columns 0) (zero-add which) in
-    wire-joined before columns i z (which * suc z) (n % suc z) (get_or held which 0) eight (mod-lt n (omega arith)) holds_it
+    let inside : which < 3 = (div-lt_iff_lt-mul {k = suc z} (omega arith)).1 (omega arith) in
+    wire-joined before columns i z (which * suc z) (n % suc z) (get_or held which 0) eight (mod-lt n (omega arith)) (holds which inside)
     ∙ ap (λ (j : ℕ). blacken_all before (wire_row j columns (i * 8) (suc z))) (div-add-mod' n (suc z))
 
--- how far apart columns stand, less one
-unfoldable pub between : Pitch → ℕ
-between pitch = apart_by pitch - 1
-
-apart : (pitch : Pitch) (c : ℕ) → (lp2.grid pitch (c + 1)).0 ≡ (lp2.grid pitch c).0 + suc (between pitch)
-unfolding lp2 between
-apart Normal c = omega arith
-apart Compressed c = omega arith
-
 -- all nine wires of eight columns of an LP2 joined are the columns struck
-pub wires_struck : (pitch : Pitch) (held columns page : List ℕ) (r : Row) (c at : ℕ) → length columns ≡ 8
-    → 8 < length held * suc (between pitch) → Held (between pitch) columns 0 held → at * 8 ≡ dot_at lp2 r (lp2.grid pitch c)
-    → wired lp2 (suc (between pitch)) (wire_of (between pitch) held) at page 9 ≡ blacken_all page (line_marks lp2 columns pitch r c)
-wires_struck pitch held columns page r c at eight many holds place =
-    let z : ℕ = between pitch in
-    nine_wired lp2 (suc z) (wire_of z held) at page columns (suc z) (held_strikes z held columns eight many holds) pitch r c (apart pitch) place
+struck_in : (pitch : Pitch) (held columns page : List ℕ) (r : Row) (c at : ℕ) → length columns ≡ 8 → Held (apart_by pitch) columns held
+    → at * 8 ≡ dot_at lp2 r (lp2.grid pitch c)
+    → wired lp2 (apart_by pitch) (wire_of (apart_by pitch) held) at page 9 ≡ blacken_all page (line_marks lp2 columns pitch r c)
+unfolding lp2
+struck_in Normal held columns page r c at eight holds place =
+    nine_wired lp2 5 _ at page columns 5 (held_strikes 4 held columns (omega arith) eight holds) Normal r c (λ k. omega arith) place
+struck_in Compressed held columns page r c at eight holds place =
+    nine_wired lp2 3 _ at page columns 3 (held_strikes 2 held columns (omega arith) eight holds) Compressed r c (λ k. omega arith) place
+
+pub wires_struck : (s : ℕ) (pitch : Pitch) (held columns page : List ℕ) (r : Row) (c at : ℕ) → s ≡ apart_by pitch → length columns ≡ 8
+    → Held s columns held → at * 8 ≡ dot_at lp2 r (lp2.grid pitch c)
+    → wired lp2 s (wire_of s held) at page 9 ≡ blacken_all page (line_marks lp2 columns pitch r c)
+wires_struck s pitch held columns page r c at is eight holds place =
+    ap (λ (n : ℕ). wired lp2 n (wire_of n held) at page 9) is
+    ∙ struck_in pitch held columns page r c at eight (subst (λ (n : ℕ). Held n columns held) is holds) place

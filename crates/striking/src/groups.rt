@@ -1,11 +1,11 @@
 // Striking a line of LP2 eight columns at a time. Eight columns fill whole bytes of a row, five in normal pitch and three in compressed. So the
 // dots of one wire of eight columns are the bytes of one number, and that wire of all eight is struck by joining those bytes to the page's.
-ghost use Rattle.std.specs.Prelude.{ℕ, ◌+◌, ◌*◌, ◌%◌, ◌≤◌, ◌<◌, ◌≡◌, List, length, take, drop};
+ghost use Rattle.std.specs.Prelude.{ℕ, ◌+◌, ◌*◌, ◌%◌, ◌^◌, ◌≤◌, ◌<◌, ◌≡◌, List, length, take, drop, get_or};
 ghost use Rattle.sheet.specs.declared.Row.{Row};
-ghost use Rattle.sheet.specs.declared.Pitch.TheVariants.{Normal, Compressed};
-ghost use Rattle.sheet.specs.Edition.{lp2};
+ghost use Rattle.sheet.specs.declared.Pitch.{Pitch};
+ghost use Rattle.sheet.specs.Edition.{apart_by, lp2};
 ghost use Rattle.sheet.specs.Dots.{blacken_all, dot_at, line_marks};
-ghost use Rattle.striking.specs.Groups.{fields, wire_dots, join_byte, join, side_by_side, swapped};
+ghost use Rattle.striking.specs.Groups.{fields, join, ones, side_by_side, wire_dots};
 ghost use Rattle.striking.specs.Room.{Room};
 
 use sheet::counts::page_byte;
@@ -22,128 +22,76 @@ pub(crate) fn four(line: &[u16], c: usize) -> u64
     low + high * 0x100000000
 }
 
-// Puts some wires of each of the eight columns from c on into one number, side by side in fields of one size, the first column's field
-// highest. A field holds numbers below `base`, and has the column's bits from bit `skip` on.
-fn fields(line: &[u16], c: usize, base: u64, skip: u32) -> u64
-    requires { (c + 8 ≤ length line.now) × (1 ≤ base) × (base ≤ 32) × (skip < 16) }
-    ensures { result ≡ fields base skip (take 8 (drop c line.now)) 0 }
+// Puts N wires of each of eight columns into one number, side by side in fields of N bits, the first column's field highest. A field has the
+// column's bits from bit `skip` on.
+fn fields<const N: usize>(columns: &[u16], skip: usize) -> u64
+    requires { (length columns.now ≡ 8) × (N ≤ 5) × (skip < 16) }
+    ensures { result ≡ fields (2 ^ N) skip columns.now 0 }
 {
-    let mut f: u64 = 0;
-    let mut k = 0;
-    while k < 8 {
-        let wires = (line[c + k] >> skip) as u64;
-        f = f * base + wires % base;
-        k += 1;
+    let mut f = 0;
+    for column in columns {
+        f = f * (1 << N) + u64::from(*column >> skip) % (1 << N);
     }
     f
 }
 
-// Joins the lowest byte of `dots` to byte i of the page.
-fn join_byte(page: &mut [u8], i: usize, dots: u64)
-    requires { i < length page.old }
-    ensures { page.new ≡ join_byte page.old i dots }
+// A 1 in each of eight fields of N bits.
+fn ones<const N: usize>() -> u64
+    requires { (1 ≤ N) × (N ≤ 5) }
+    ensures value { result ≡ ones (2 ^ N) 8 }
+    ensures below { result < 2 ^ 40 }
 {
-    page[i] = page[i] | ((dots % 256) as u8);
-}
-
-// A number's eight bytes in the other order.
-fn swapped(n: u64) -> u64
-    ensures { result ≡ swapped 8 n 0 }
-{
-    let mut s: u64 = 0;
-    let mut k: u32 = 0;
-    while k < 8 {
-        s = s * 256 + (n >> (8 * k)) % 256;
-        k += 1;
+    let mut all = 0;
+    for _ in 0..8usize {
+        all = all * (1 << N) + 1;
     }
-    s
+    all
 }
 
-// Strikes one wire of eight columns in normal pitch: the one at bit `wire` of each field. Its dots are in the five bytes from `at` on.
-// The mask keeps one bit of each field of five, and a column's dot is at the top of its five positions. The five bytes are moved to the number's top
-// and swapped, so that the first is lowest, and the compiler joins four of them at once.
-fn wire_normal(page: &mut [u8], at: usize, fields: u64, wire: u32)
-    requires { (at + 5 ≤ length page.old) × (wire < 5) }
-    ensures { page.new ≡ join page.old at 5 (wire_dots 32 fields wire) }
+// Joins the N lowest bytes of `dots` to those of the page from `at` on, the highest first.
+fn join<const N: usize>(page: &mut [u8], at: usize, dots: u64)
+    requires { (at + N ≤ length page.old) × (N ≤ 8) }
+    ensures { page.new ≡ join page.old at N dots }
 {
-    let dots = swapped(((fields >> wire) & 0x842108421) * 16 * 0x1000000);
-    join_byte(page, at, dots);
-    join_byte(page, at + 1, dots / 0x100);
-    join_byte(page, at + 2, dots / 0x10000);
-    join_byte(page, at + 3, dots / 0x1000000);
-    join_byte(page, at + 4, dots / 0x100000000);
+    for i in 0..N {
+        page[at + i] |= ((dots >> (8 * (N - 1 - i))) % 256) as u8;
+    }
 }
 
-// Strikes one wire of eight columns in compressed pitch: the one at bit `wire` of each field. Its dots are in the three bytes from `at` on.
-// The mask keeps one bit of each field of three, and a column's dot is at the top of its three positions.
-fn wire_compressed(page: &mut [u8], at: usize, fields: u64, wire: u32)
-    requires { (at + 3 ≤ length page.old) × (wire < 3) }
-    ensures { page.new ≡ join page.old at 3 (wire_dots 8 fields wire) }
+// Strikes one wire of eight columns that stand N positions apart: the one at bit `wire` of each field. Its dots are in the N bytes from `at` on.
+// The mask keeps one bit of each field, and a column's dot is at the top of its N positions.
+fn wire<const N: usize>(page: &mut [u8], at: usize, fields: u64, wire: usize)
+    requires { (at + N ≤ length page.old) × (1 ≤ N) × (N ≤ 5) × (wire < N) }
+    ensures { page.new ≡ join page.old at N (wire_dots (2 ^ N) fields wire) }
 {
-    let dots = ((fields >> wire) & 0x249249) * 4;
-    join_byte(page, at, dots / 0x10000);
-    join_byte(page, at + 1, dots / 0x100);
-    join_byte(page, at + 2, dots);
+    let dots = ((fields >> wire) & ones::<N>()) << (N - 1);
+    join::<N>(page, at, dots);
 }
 
-// Strikes the nine wires of eight columns in normal pitch, each a row below the one before: wires 1 to 4 are in the fields `high`, 5 to 9
-// in `low`.
-fn wires_normal(page: &mut [u8], at: usize, low: u64, high: u64)
-    requires { at + 6605 ≤ length page.old }
-    ensures { (columns : List ℕ) (r : Row) (c : ℕ) → length columns ≡ 8 → low ≡ fields 32 0 columns 0 → high ≡ fields 32 5 columns 0
-        → at * 8 ≡ dot_at lp2 r (lp2.grid Normal c) → page.new ≡ blacken_all page.old (line_marks lp2 columns Normal r c) }
+// Strikes the nine wires of eight columns that stand N positions apart, each a row below the one before: a column's bit k is bit k % N of its
+// field in `held[k / N]`.
+fn wires<const N: usize>(page: &mut [u8], at: usize, held: [u64; 3])
+    requires { (at + 6600 + N ≤ length page.old) × (3 ≤ N) × (N ≤ 5) }
+    ensures { (pitch : Pitch) (columns : List ℕ) (r : Row) (c : ℕ) → N ≡ apart_by pitch → length columns ≡ 8
+        → ((k : ℕ) → k < 3 → get_or held k 0 ≡ fields (2 ^ N) (k * N) columns 0) → at * 8 ≡ dot_at lp2 r (lp2.grid pitch c)
+        → page.new ≡ blacken_all page.old (line_marks lp2 columns pitch r c) }
 {
-    wire_normal(page, at, high, 3);
-    wire_normal(page, at + LP2_ROW_BYTES, high, 2);
-    wire_normal(page, at + 2 * LP2_ROW_BYTES, high, 1);
-    wire_normal(page, at + 3 * LP2_ROW_BYTES, high, 0);
-    wire_normal(page, at + 4 * LP2_ROW_BYTES, low, 4);
-    wire_normal(page, at + 5 * LP2_ROW_BYTES, low, 3);
-    wire_normal(page, at + 6 * LP2_ROW_BYTES, low, 2);
-    wire_normal(page, at + 7 * LP2_ROW_BYTES, low, 1);
-    wire_normal(page, at + 8 * LP2_ROW_BYTES, low, 0);
+    for row in 0..9 {
+        let k = 8 - row;
+        wire::<N>(page, at + row * LP2_ROW_BYTES, held[k / N], k % N);
+    }
 }
 
-// Strikes the nine wires of eight columns in compressed pitch, each a row below the one before: wires 1 to 3 are in the fields `high`, 4 to 6
-// in `middle`, 7 to 9 in `low`.
-fn wires_compressed(page: &mut [u8], at: usize, low: u64, middle: u64, high: u64)
-    requires { at + 6603 ≤ length page.old }
-    ensures { (columns : List ℕ) (r : Row) (c : ℕ) → length columns ≡ 8 → low ≡ fields 8 0 columns 0 → middle ≡ fields 8 3 columns 0
-        → high ≡ fields 8 6 columns 0 → at * 8 ≡ dot_at lp2 r (lp2.grid Compressed c)
-        → page.new ≡ blacken_all page.old (line_marks lp2 columns Compressed r c) }
+// Strikes eight columns that stand N positions apart, the topmost wire of the first at the top of byte `at`.
+fn eight<const N: usize>(page: &mut [u8], columns: &[u16], at: usize)
+    requires { (at + 6600 + N ≤ length page.old) × (3 ≤ N) × (N ≤ 5) × (length columns.now ≡ 8) }
+    ensures { (pitch : Pitch) (r : Row) (c : ℕ) → N ≡ apart_by pitch → at * 8 ≡ dot_at lp2 r (lp2.grid pitch c)
+        → page.new ≡ blacken_all page.old (line_marks lp2 columns.now pitch r c) }
 {
-    wire_compressed(page, at, high, 2);
-    wire_compressed(page, at + LP2_ROW_BYTES, high, 1);
-    wire_compressed(page, at + 2 * LP2_ROW_BYTES, high, 0);
-    wire_compressed(page, at + 3 * LP2_ROW_BYTES, middle, 2);
-    wire_compressed(page, at + 4 * LP2_ROW_BYTES, middle, 1);
-    wire_compressed(page, at + 5 * LP2_ROW_BYTES, middle, 0);
-    wire_compressed(page, at + 6 * LP2_ROW_BYTES, low, 2);
-    wire_compressed(page, at + 7 * LP2_ROW_BYTES, low, 1);
-    wire_compressed(page, at + 8 * LP2_ROW_BYTES, low, 0);
-}
-
-// Strikes the eight columns from c on, in normal pitch.
-fn eight_normal(page: &mut [u8], line: &[u16], at: usize, c: usize)
-    requires { (at + 6605 ≤ length page.old) × (c + 8 ≤ length line.now) }
-    ensures { (r : Row) → at * 8 ≡ dot_at lp2 r (lp2.grid Normal c)
-        → page.new ≡ blacken_all page.old (line_marks lp2 (take 8 (drop c line.now)) Normal r c) }
-{
-    let low = fields(line, c, 32, 0);
-    let high = fields(line, c, 32, 5);
-    wires_normal(page, at, low, high);
-}
-
-// Strikes the eight columns from c on, in compressed pitch.
-fn eight_compressed(page: &mut [u8], line: &[u16], at: usize, c: usize)
-    requires { (at + 6603 ≤ length page.old) × (c + 8 ≤ length line.now) }
-    ensures { (r : Row) → at * 8 ≡ dot_at lp2 r (lp2.grid Compressed c)
-        → page.new ≡ blacken_all page.old (line_marks lp2 (take 8 (drop c line.now)) Compressed r c) }
-{
-    let low = fields(line, c, 8, 0);
-    let middle = fields(line, c, 8, 3);
-    let high = fields(line, c, 8, 6);
-    wires_compressed(page, at, low, middle, high);
+    let low = fields::<N>(columns, 0);
+    let middle = fields::<N>(columns, N);
+    let high = fields::<N>(columns, 2 * N);
+    wires::<N>(page, at, [low, middle, high]);
 }
 
 // Strikes the eight columns from c on, with wire 1 in `row`. As c is a multiple of eight, their dots begin at the top of a byte. Eight
@@ -157,8 +105,9 @@ pub(crate) fn eight_columns(page: &mut [u8], line: &[u16], row: Row, pitch: Pitc
         return;
     }
     let at = page_byte(Model::Lp2, row, grid(Model::Lp2, pitch, c));
+    let columns = &line[c..c + 8];
     match pitch {
-        Pitch::Normal => eight_normal(page, line, at, c),
-        Pitch::Compressed => eight_compressed(page, line, at, c),
+        Pitch::Normal => eight::<5>(page, columns, at),
+        Pitch::Compressed => eight::<3>(page, columns, at),
     }
 }

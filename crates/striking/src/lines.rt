@@ -7,7 +7,6 @@ ghost use Rattle.striking.specs.Room.{Room};
 
 use crate::groups::eight_columns;
 use crate::positions::eighty_positions;
-use sheet::clearing::empty;
 use sheet::sizes::width;
 use sheet::{Model, Pitch, Row};
 
@@ -17,10 +16,8 @@ fn columns(page: &mut [u8], line: &[u16], row: Row, pitch: Pitch)
     ensures { page.new ≡ struck lp2 page.old line.now row pitch }
 {
     let w = width(Model::Lp2, pitch);
-    let mut column = 0;
-    while column < w {
+    for column in (0..w).step_by(8) {
         eight_columns(page, line, row, pitch, column);
-        column += 8;
     }
 }
 
@@ -30,10 +27,8 @@ fn positions(page: &mut [u8], line: &[u16], row: Row, pitch: Pitch)
     ensures { page.new ≡ struck dg6215 page.old line.now row pitch }
 {
     let w = width(Model::Dg6215, pitch);
-    let mut position = 0;
-    while position < w {
+    for position in (0..w).step_by(80) {
         eighty_positions(page, line, row, pitch, position);
-        position += 80;
     }
 }
 
@@ -55,5 +50,5 @@ pub fn strike(model: Model, page: &mut [u8], line: &mut [u16], row: Row, pitch: 
     ensures line_after { line.new ≡ empty_line (described model) }
 {
     onto(model, page, line, row, pitch);
-    empty(line);
+    line.fill(0);
 }

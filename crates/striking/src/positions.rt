@@ -26,6 +26,7 @@ fn exchanged(f: u64, moved: u64, up: u64) -> u64
 
 // The eight lowest wires of four columns and of the four that stand eight further on: a byte for each column, and above it that of the column
 // eight further on.
+#[tactic(auto, using(crate::proofs::Grouping::masked_fits), unfolding(crate::specs::Turning::made, crate::specs::Turning::paired))]
 fn paired(four: u64, further: u64) -> u64
     ensures { result ≡ made (four ∷ further ∷ []) (paired (number 0) (number 1)) }
 {
@@ -42,6 +43,7 @@ fn turned(wires: u64) -> u64
 }
 
 // Wire 1 of sixteen columns, four of which stand side by side in each number: in the two lowest bytes, as each of four wires turned.
+#[tactic(auto, using(crate::proofs::Grouping::masked_fits), unfolding(crate::specs::Turning::made, crate::specs::Turning::topmost))]
 fn topmost(first: u64, second: u64, third: u64, fourth: u64) -> u64
     ensures { result ≡ made (first ∷ second ∷ third ∷ fourth ∷ []) topmost }
 {
@@ -115,16 +117,13 @@ fn sixteen_positions(page: &mut [u8], line: &[u16], row: Row, pitch: Pitch, c: u
     sixteen_columns(page, at, first, second, third, fourth);
 }
 
-// The wires that any of the n columns from c on has.
-fn any_wires(line: &[u16], c: usize, n: usize) -> u16
-    requires { c + n ≤ length line.now }
-    ensures { result ≡ any_wires (take n (drop c line.now)) }
+// The wires that any of some columns has.
+fn any_wires(columns: &[u16]) -> u16
+    ensures { result ≡ any_wires columns.now }
 {
-    let mut any: u16 = 0;
-    let mut k = n;
-    while 0 < k {
-        k -= 1;
-        any = line[c + k] | any;
+    let mut any = 0;
+    for column in columns {
+        any |= *column;
     }
     any
 }
@@ -135,12 +134,10 @@ pub(crate) fn eighty_positions(page: &mut [u8], line: &[u16], row: Row, pitch: P
     requires c_value { (c % 80 ≡ 0) × (c < dg6215.width pitch) }
     ensures { page.new ≡ blacken_all page.old (line_marks dg6215 (take 80 (drop c line.now)) pitch row c) }
 {
-    if any_wires(line, c, 80) == 0 {
+    if any_wires(&line[c..c + 80]) == 0 {
         return;
     }
-    let mut k = 0;
-    while k < 80 {
+    for k in (0..80).step_by(16) {
         sixteen_positions(page, line, row, pitch, c + k);
-        k += 16;
     }
 }

@@ -1,10 +1,10 @@
 -- Taking apart what was put together gives the same state.
-use Prim.Native.Nat.{ℕ, ◌+◌, ◌-◌, ◌≤◌}
+use Prim.Native.Nat.{ℕ, ◌≤◌}
 use mathlib.Core.Bool.{Bool, true, false, ◌&&◌}
 use mathlib.Core.List.{List}
 use mathlib.Core.Path.{◌≡◌, refl}
 use native.Mathlib.Omega.{arith}
-use borrow.Author.Tests.{eq-eqb, le-leb, ne_eqb}
+use borrow.Author.Tests.{eq-eqb, le-leb}
 use lib.Dec.{eqb, leb}
 use lib.ListN.{get_or, length}
 use Rattle.sheet.specs.declared.Model.{Model}
@@ -16,8 +16,7 @@ use Rattle.printer.specs.declared.Pending.{Pending}
 use Rattle.printer.specs.declared.Pending.TheVariants.{Nothing, Escape, Tabs, Reset, Select, SelectLow, CountHigh, CountLow}
 use Rattle.printer.specs.declared.Pending.TheVariants.{AddressHigh, AddressLow, Payload, Bracket}
 use Rattle.printer.specs.declared.Printer.{Printer}
-use Rattle.printer.specs.declared.Setting.{Setting}
-use Rattle.printer.specs.declared.Setting.TheVariants.{Omitted, Given}
+use Rattle.std.specs.Prelude.{None, Option, Some}
 use Rattle.words.specs.Words.{Ranged, at_most, form_of, head_of, in_range, in_range_before, is_state, model_of, model_word}
 use Rattle.words.specs.Words.{number_limit, part, pending_of, pending_words, pitch_of, pitch_word, setting_of, setting_word, state_of}
 use Rattle.words.specs.Words.{state_size, state_words, style_of, truth}
@@ -37,13 +36,10 @@ unfolding pitch_of pitch_word
 pitch_kept Normal = refl
 pitch_kept Compressed = refl
 
-taken_off : (n : ℕ) → n + 1 - 1 ≡ n
-taken_off n = omega arith
-
-setting_kept : (s : Setting) → setting_of (setting_word s) ≡ s
+setting_kept : (s : Option ℕ) → setting_of (setting_word s) ≡ s
 unfolding setting_of setting_word
-setting_kept Omitted = refl
-setting_kept (Given n) = simp (ne_eqb (n + 1) 0 (λ e. omega (arith, e)), taken_off n)
+setting_kept None = refl
+setting_kept (Some n) = grind arith
 
 -- the six words of what is pending, read back
 abbrev reread : List ℕ → Pending
@@ -64,7 +60,7 @@ pending_kept (AddressLow place count high) = refl
 pending_kept (Payload place l) = refl
 pending_kept (Bracket place s) = simp setting_kept
 
-six_words : (q : Pending) → length (pending_words q) ≡ 6
+pub six_words : (q : Pending) → length (pending_words q) ≡ 6
 unfolding pending_words
 six_words Nothing = refl
 six_words (Escape place) = refl

@@ -1,6 +1,6 @@
 -- The words in which a caller keeps a state: the model; lines, spacing and the lines of the two margins; job, row, column; fresh, plotted, plotting,
 -- compressed, elongated, underscore, downloaded, each 0 or 1; the two words of the tabs; then what is pending.
-use Rattle.std.specs.Prelude.{ℕ, ◌+◌, ◌-◌, ◌≤◌, Bool, true, cond, ◌&&◌, List, [], ◌∷◌, eqb, leb, drop, get_or, length, take}
+use Rattle.std.specs.Prelude.{ℕ, ◌+◌, ◌-◌, ◌≤◌, Bool, true, cond, ◌&&◌, List, [], ◌∷◌, eqb, leb, drop, get_or, length, take, None, Option, Some}
 use Rattle.sheet.specs.declared.Form.{Form}
 use Rattle.sheet.specs.declared.Model.{Model}
 use Rattle.sheet.specs.declared.Model.TheVariants.{Lp2, Dg6215}
@@ -13,8 +13,6 @@ use Rattle.printer.specs.declared.Pending.{Pending}
 use Rattle.printer.specs.declared.Pending.TheVariants.{Nothing, Escape, Tabs, Reset, Select, SelectLow, CountHigh, CountLow}
 use Rattle.printer.specs.declared.Pending.TheVariants.{AddressHigh, AddressLow, Payload, Bracket}
 use Rattle.printer.specs.declared.Printer.{Printer}
-use Rattle.printer.specs.declared.Setting.{Setting}
-use Rattle.printer.specs.declared.Setting.TheVariants.{Omitted, Given}
 use Rattle.printer.specs.declared.Style.{Style}
 
 -- 1 for true, 0 for false
@@ -32,9 +30,9 @@ pitch_word Normal = 0
 pitch_word Compressed = 1
 
 -- 0 for an omitted number, 1 more than the number for a given one
-unfoldable pub setting_word : Setting → ℕ
-setting_word Omitted = 0
-setting_word (Given n) = n + 1
+unfoldable pub setting_word : Option ℕ → ℕ
+setting_word None = 0
+setting_word (Some n) = n + 1
 
 -- the six words of what is pending: its kind, the place of its first byte, a byte (of a number the high one, of a payload the sum, of ESC [ the semicolons),
 -- count, address, payload taken (of ESC [ the three numbers); what a kind has not is 0
@@ -123,8 +121,8 @@ model_of w = cond (eqb w 1) Dg6215 Lp2
 unfoldable pub pitch_of : ℕ → Pitch
 pitch_of w = cond (eqb w 1) Compressed Normal
 
-unfoldable pub setting_of : ℕ → Setting
-setting_of w = cond (eqb w 0) Omitted (Given (w - 1))
+unfoldable pub setting_of : ℕ → Option ℕ
+setting_of w = cond (eqb w 0) None (Some (w - 1))
 
 -- what is pending, from its six words; a word that a kind has no use for is not read
 unfoldable pub pending_of : ℕ → ℕ → ℕ → ℕ → ℕ → ℕ → Pending

@@ -1,70 +1,26 @@
--- `put`: seventeen words are written from the first on, then those of what is pending; `wrote_state` says that this is the state, in range.
-use mathlib.Core.Path.{◌∙◌}
+-- `put`: the words written are those of the state, whose job and pending command are in range by their types.
+use Prim.Native.Nat.{ℕ}
+use mathlib.Core.List.{[], ◌∷◌}
+use mathlib.Core.Path.{◌≡◌, ap, ◌∙◌}
 use native.Mathlib.Omega.{arith}
-use lib.ListN.{length-set}
-use Rattle.words.proofs.Writing.{wrote_state}
+use lib.ListN.{get_or}
+use Rattle.words.specs.Words.{is_state, state_words}
+use Rattle.words.proofs.Kept.{put_is_state}
+use Rattle.words.proofs.Writing.{pending_spelled, truth_byte, written_behind}
 use Rattle.words.proofs.put.Goals as goal
-use Rattle.words.proofs.put.Goals.{Start}
-
-pub put_pending-requires : goal.put_pending-requires
-put_pending-requires c = simp length-set c.requires
-
-pub shape_of-state : goal.shape_of-state
-shape_of-state c = c.put_pending.auto.state ∙ simp length-set
 
 pub returns : goal.returns
+unfolding state_words
 returns c =
-    let s = (goal.at.returns c).Start in
-    let whole = wrote_state s.args.p s.args.state.now s.requires (omega (arith, s)) c.model_word.ensures
-    c.lines_through.ensures c.lines_through-2.ensures
-    c.rows_above.ensures c.truth.ensures c.truth-2.ensures
-    c.truth-3.ensures c.pitch_word.ensures c.truth-4.ensures
-    c.truth-5.ensures c.truth-6.ensures (c.put_pending.ensures.written, c.put_pending.ensures.ranged) in record { written = whole.0; sound = whole.1 }
-
-pub bounds-state-1 : goal.bounds-state-1
-bounds-state-1 c = simp length-set (omega arith)
-
-pub bounds-state-2 : goal.bounds-state-2
-bounds-state-2 c = simp length-set (omega arith)
-
-pub bounds-state-3 : goal.bounds-state-3
-bounds-state-3 c = simp length-set (omega arith)
-
-pub bounds-state-4 : goal.bounds-state-4
-bounds-state-4 c = simp length-set (omega arith)
-
-pub bounds-state-5 : goal.bounds-state-5
-bounds-state-5 c = simp length-set (omega arith)
-
-pub bounds-state-6 : goal.bounds-state-6
-bounds-state-6 c = simp length-set (omega arith)
-
-pub bounds-state-7 : goal.bounds-state-7
-bounds-state-7 c = simp length-set (omega arith)
-
-pub bounds-state-8 : goal.bounds-state-8
-bounds-state-8 c = simp length-set (omega arith)
-
-pub bounds-state-9 : goal.bounds-state-9
-bounds-state-9 c = simp length-set (omega arith)
-
-pub bounds-state-10 : goal.bounds-state-10
-bounds-state-10 c = simp length-set (omega arith)
-
-pub bounds-state-11 : goal.bounds-state-11
-bounds-state-11 c = simp length-set (omega arith)
-
-pub bounds-state-12 : goal.bounds-state-12
-bounds-state-12 c = simp length-set (omega arith)
-
-pub bounds-state-13 : goal.bounds-state-13
-bounds-state-13 c = simp length-set (omega arith)
-
-pub bounds-state-14 : goal.bounds-state-14
-bounds-state-14 c = simp length-set (omega arith)
-
-pub bounds-state-15 : goal.bounds-state-15
-bounds-state-15 c = simp length-set (omega arith)
-
-pub bounds-state-16 : goal.bounds-state-16
-bounds-state-16 c = simp length-set (omega arith)
+    let p = c.args.p in
+    let six : ℕ → ℕ = λ k. get_or c.pending_words.result k 0 in
+    let words =
+    c.model_word.result ∷ p.form.lines ∷ p.form.spacing ∷ c.lines_through.result ∷ c.lines_through-2.result ∷ c.from.result
+    ∷ c.rows_above.result ∷ p.head.column ∷ c.from-2.result ∷ c.from-3.result ∷ c.from-4.result ∷ c.pitch_word.result
+    ∷ c.from-5.result ∷ c.from-6.result ∷ c.from-7.result ∷ p.tabs.low ∷ p.tabs.high
+    ∷ six 0 ∷ six 1 ∷ six 2 ∷ six 3 ∷ six 4 ∷ six 5 ∷ [] in
+    let same : words ≡ state_words p = grind (arith, truth_byte, pending_spelled) in
+    let written = written_behind words c.args.state.now 0 c.requires ∙ same in record {
+      written = written;
+      sound = ap is_state written ∙ put_is_state p (omega (arith, c)) c.pending_words.ensures.ranged;
+    }

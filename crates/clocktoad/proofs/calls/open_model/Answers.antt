@@ -5,10 +5,11 @@ use mathlib.Core.Bool.{true}
 use mathlib.Core.List.{List, []}
 use mathlib.Core.Path.{◌≡◌, sym, ◌∙◌}
 use native.Mathlib.Omega.{arith}
+use Rattle.printer.proofs.Lending.{lent_here}
 use Rattle.printer.specs.Machine.{shut}
 use Rattle.protocol.specs.Answers.{report}
 use Rattle.protocol.specs.Calls.{Opening}
-use Rattle.protocol.specs.Given.{given_opening}
+use Rattle.protocol.specs.Given.{opening_in}
 use Rattle.feeding.specs.Feeding.{called}
 use Rattle.feeding.proofs.Feeding.{Lent}
 use Rattle.words.specs.Words.{is_state, state_words}
@@ -19,17 +20,18 @@ use Rattle.clocktoad.proofs.calls.open_model.Goals.{After-open-opened, Start}
 abbrev lent : Start → Lent
 lent s =
     let a = s.args in
-    record { state = a.state.now; page = a.page.now; line = a.line.now; staging = a.staging.now; store = a.store.now; font = a.font.now }
+    let m = a.memory.now in
+    record { state = a.state.now; page = m.page.now; line = m.line.now; staging = m.staging.now; store = m.store.now; font = m.font.now }
 
 -- what `open` gave back; its first three arguments are a model and two numbers
 abbrev opened : After-open-opened → Opening
-opened c = let m = c.open-opened.new in given_opening c.open-opened.result m.page m.line m.staging m.store
+opened c = opening_in c.open-opened.result c.open-opened.new.memory
 
 pub returns-then-state-ne-STATE_WORDS : goal.returns-then-state-ne-STATE_WORDS
 returns-then-state-ne-STATE_WORDS c =
     let s = (goal.at.returns-then-state-ne-STATE_WORDS c).Start in
     let whole = open_unkept s.args.model s.args.lines s.args.spacing (lent s) (λ q. omega (arith, c.if-state-ne-STATE_WORDS.true))
-    c.refused_or.ensures (c.admit.ensures (shut s.args.model)) in record { outcome = whole.0; sound = whole.1 }
+    c.refused_or.ensures (c.admit-answer.ensures (shut s.args.model)) in record { outcome = whole.0; sound = whole.1; lent = lent_here s.args.memory.now }
 
 -- an opening that gives those words is the one asked for
 kept : (c : After-open-opened) {words : List ℕ} {number : ℕ}
@@ -41,7 +43,7 @@ kept : (c : After-open-opened) {words : List ℕ} {number : ℕ}
 kept c w n =
     let s = (goal.at.After-open-opened c).Start in
     opens s.args.model s.args.lines s.args.spacing (lent s) (opened c) (omega (arith, c.if-state-ne-STATE_WORDS.false))
-    (c.open-opened.ensures (shut s.args.model)) w n
+    (c.open-opened.ensures.opened (shut s.args.model)) w n
 
 pub returns-then-refusal : goal.returns-then-refusal
 returns-then-refusal c =
@@ -49,9 +51,9 @@ returns-then-refusal c =
     let o = (goal.at.returns-then-refusal c).After-open-opened in
     let a = s.args in
     let whole = kept o
-    (shut_given a.model a.lines a.spacing (lent s) (opened o) (o.open-opened.ensures (shut a.model))
+    (shut_given a.model a.lines a.spacing (lent s) (opened o) (o.open-opened.ensures.opened (shut a.model))
     (sym c.refusal.ensures ∙ c.if-refusal.true) (c.put_new.ensures.written, c.put_new.ensures.sound))
-    c.answer_number.ensures in record { outcome = whole.0; sound = whole.1 }
+    c.answer_number.ensures in record { outcome = whole.0; sound = whole.1; lent = o.open-opened.ensures.lent }
 
 pub returns : goal.returns
 returns c =
@@ -59,6 +61,6 @@ returns c =
     let o = (goal.at.returns c).After-open-opened in
     let a = s.args in
     let whole = kept o
-    (new_given a.model a.lines a.spacing (lent s) (opened o) (o.open-opened.ensures (shut a.model))
+    (new_given a.model a.lines a.spacing (lent s) (opened o) (o.open-opened.ensures.opened (shut a.model))
     (sym c.refusal.ensures ∙ c.if-refusal.false) (c.put_new-2.ensures.written, c.put_new-2.ensures.sound))
-    c.answer_number-2.ensures in record { outcome = whole.0; sound = whole.1 }
+    c.answer_number-2.ensures in record { outcome = whole.0; sound = whole.1; lent = o.open-opened.ensures.lent }

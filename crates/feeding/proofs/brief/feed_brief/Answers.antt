@@ -1,6 +1,6 @@
 -- `brief::feed_brief`: what is refused, or is no character or column, is left as it is; no byte, and one that goes on a run, is fed as `feeding` feeds it.
 use Prim.Native.Nat.{ℕ, ◌≤◌, ◌<◌}
-use mathlib.Core.Bool.{true, true≢false}
+use mathlib.Core.Bool.{true}
 use mathlib.Core.List.{List}
 use mathlib.Core.Path.{◌≡◌, refl, ap, subst, sym, ◌∙◌}
 use native.Mathlib.Omega.{arith}
@@ -12,17 +12,17 @@ use Rattle.printer.specs.Machine.{Machine, edition_of, limit, store_size}
 use Rattle.printer.specs.Room.{Ready}
 use Rattle.job.proofs.Underway.{writable}
 use Rattle.words.specs.Words.{at_rest, state_words}
-use Rattle.words.proofs.Ranges.{state_halves}
-use Rattle.words.proofs.Resting.{rest_is_state, rest_length, rest_words}
+use Rattle.words.proofs.Resting.{rest_length, rest_words}
 use Rattle.feeding.specs.Feeding.{Called}
 use Rattle.feeding.proofs.Feeding.{Lent, RanTo, at_feed, byte_fed, byte_left, byte_room, no_byte, none_fed, one_byte}
 use Rattle.feeding.proofs.brief.feed_brief.Goals as goal
-use Rattle.feeding.proofs.brief.feed_brief.Goals.{After-single-reached, After-state_with-p, Else-not-at_rest, Else-not-brief, Else-not-feedable, Start}
+use Rattle.feeding.proofs.brief.feed_brief.Goals.{After-single, After-state_with-p, Else-not-at_rest, Else-not-brief, Else-not-feedable, Start}
 
 abbrev lent : Start → Lent
 lent s =
     let a = s.args in
-    record { state = a.state.now; page = a.page.now; line = a.line.now; staging = a.staging.now; store = a.store.now; font = a.font.now }
+    let m = a.memory.now in
+    record { state = a.state.now; page = m.page.now; line = m.line.now; staging = m.staging.now; store = m.store.now; font = m.font.now }
 
 -- the byte of a piece that has one
 abbrev byte : Start → ℕ
@@ -51,29 +51,14 @@ ready : (c : Else-not-feedable) → let p = c.state_with-p.result in
 ready c = c.feedable.ensures c.if-not-feedable.false
 
 -- the byte's run, of the machine that was lent
-ran : (c : After-single-reached) → let s = (goal.at.After-single-reached c).Start in
+ran : (c : After-single) → let s = (goal.at.After-single c).Start in
     let p = c.state_with-p.result in
-    RanTo (lent s) (byte s) p c.single-reached.result c.single-reached.new.line
-ran c = let s = (goal.at.After-single-reached c).Start in c.single-reached.ensures (lent s).page (lent s).staging
+    RanTo (lent s) (byte s) p c.single.result c.single.new.line
+ran c = let s = (goal.at.After-single c).Start in c.single.ensures (lent s).page (lent s).staging
 
-pub returns-then-not-brief : goal.returns-then-not-brief
-returns-then-not-brief c = record { done = λ q. absurd (true≢false (sym q)); undone = λ q. (refl, refl, refl) }
-
-pub returns-then-report-ne-REPORT_WORDS : goal.returns-then-report-ne-REPORT_WORDS
-returns-then-report-ne-REPORT_WORDS c = record { done = λ q. absurd (true≢false (sym q)); undone = λ q. (refl, refl, refl) }
-
-pub returns-then-not-at_rest : goal.returns-then-not-at_rest
-returns-then-not-at_rest c = record { done = λ q. absurd (true≢false (sym q)); undone = λ q. (refl, refl, refl) }
-
-pub returns-then-not-feedable : goal.returns-then-not-feedable
-returns-then-not-feedable c = record { done = λ q. absurd (true≢false (sym q)); undone = λ q. (refl, refl, refl) }
-
-pub state_with-p-requires : goal.state_with-p-requires
-state_with-p-requires c = state_halves _ (rest_is_state _ (rests c))
-
-pub single-reached-requires : goal.single-reached-requires
-single-reached-requires c =
-    let h = ready (goal.at.single-reached-requires c).Else-not-feedable in (
+pub single-requires : goal.single-requires
+single-requires c =
+    let h = ready (goal.at.single-requires c).Else-not-feedable in (
       ap (λ (q : Printer). q.pending) c.state_with-p.ensures,
       writable (described_proper c.state_with-p.result.model) h.0 h.1,
     )
@@ -87,34 +72,34 @@ advance-requires c =
     let s = (goal.at.advance-requires c).Start in (
       rest_length _ (rests (goal.at.advance-requires c).Else-not-at_rest),
       subst (λ (n : ℕ). n < limit) (ap (λ (q : Printer). q.job) c.state_with-p.ensures)
-          (byte_room (lent s) (byte s) _ _ _ (ran (goal.at.advance-requires c).After-single-reached) c.in-At.is),
+          (byte_room (lent s) (byte s) _ _ _ (ran (goal.at.advance-requires c).After-single) c.in-Some.is),
     )
 
 -- no byte, and so nothing to change
-pub returns-then-piece-eq0 : goal.returns-then-piece-eq0
-returns-then-piece-eq0 c =
-    let s = (goal.at.returns-then-piece-eq0 c).Start in
-    let k = (goal.at.returns-then-piece-eq0 c).After-state_with-p in
+pub returns-then-piece-eq0-clause-done : goal.returns-then-piece-eq0-clause-done
+returns-then-piece-eq0-clause-done c =
+    let s = (goal.at.returns-then-piece-eq0-clause-done c).Start in
+    let k = (goal.at.returns-then-piece-eq0-clause-done c).After-state_with-p in
     let fed =
-    none_fed (lent s) (told s) (rests (goal.at.returns-then-piece-eq0 c).Else-not-at_rest) c.if-report-ne-REPORT_WORDS.false
-    k.state_with-p.ensures (ready (goal.at.returns-then-piece-eq0 c).Else-not-feedable)
+    none_fed (lent s) (told s) (rests (goal.at.returns-then-piece-eq0-clause-done c).Else-not-at_rest) c.if-report-ne-REPORT_WORDS.false
+    k.state_with-p.ensures (ready (goal.at.returns-then-piece-eq0-clause-done c).Else-not-feedable)
     (words-held k) c.tell.ensures in
     let none = no_byte s.args.piece.now c.if-piece-eq0.true in
-    record { done = λ q. (fed.0 ∙ ap (fed-piece s) (sym none), fed.1 (omega arith)); undone = λ q. absurd (true≢false q) }
+    λ q. (fed.0 ∙ ap (fed-piece s) (sym none), fed.1 (omega arith))
 
-pub returns-in-Nowhere : goal.returns-in-Nowhere
-returns-in-Nowhere c =
-    let s = (goal.at.returns-in-Nowhere c).Start in
-    let k = (goal.at.returns-in-Nowhere c).After-single-reached in
-    record { done = λ q. absurd (true≢false (sym q)); undone = λ q. (refl, byte_left (lent s) (byte s) _ _ _ (ran k) c.in-Nowhere.is, refl) }
+pub returns-in-None-clause-undone : goal.returns-in-None-clause-undone
+returns-in-None-clause-undone c =
+    let s = (goal.at.returns-in-None-clause-undone c).Start in
+    let k = (goal.at.returns-in-None-clause-undone c).After-single in
+    λ q. (refl, rw (byte_left (lent s) (byte s) _ _ _ (ran k) c.in-None.is) (refl {a = c.args.memory.now}), refl)
 
-pub returns-in-At : goal.returns-in-At
-returns-in-At c =
-    let s = (goal.at.returns-in-At c).Start in
-    let k = (goal.at.returns-in-At c).After-state_with-p in
+pub returns-in-Some-clause-done : goal.returns-in-Some-clause-done
+returns-in-Some-clause-done c =
+    let s = (goal.at.returns-in-Some-clause-done c).Start in
+    let k = (goal.at.returns-in-Some-clause-done c).After-state_with-p in
     let fed =
-    byte_fed (lent s) (byte s) _ _ _ (ran (goal.at.returns-in-At c).After-single-reached) c.in-At.is (told s) (rests (goal.at.returns-in-At c).Else-not-at_rest)
-    c.if-report-ne-REPORT_WORDS.false k.state_with-p.ensures (described_proper k.state_with-p.result.model) (ready (goal.at.returns-in-At c).Else-not-feedable)
-    (c.advance.ensures k.state_with-p.result (words-held k)) c.tell-in-At.ensures in
-    let one = one_byte s.args.piece.now (short (goal.at.returns-in-At c).Else-not-brief) c.if-piece-eq0.false in
-    record { done = λ q. (fed.0 ∙ ap (fed-piece s) (sym one), fed.1 (omega arith)); undone = λ q. absurd (true≢false q) }
+    byte_fed (lent s) (byte s) _ _ _ (ran (goal.at.returns-in-Some-clause-done c).After-single) c.in-Some.is (told s) (rests (goal.at.returns-in-Some-clause-done c).Else-not-at_rest)
+    c.if-report-ne-REPORT_WORDS.false k.state_with-p.ensures (described_proper k.state_with-p.result.model) (ready (goal.at.returns-in-Some-clause-done c).Else-not-feedable)
+    (c.advance.ensures k.state_with-p.result (words-held k)) c.tell-in-Some.ensures in
+    let one = one_byte s.args.piece.now (short (goal.at.returns-in-Some-clause-done c).Else-not-brief) c.if-piece-eq0.false in
+    λ q. (fed.0 ∙ ap (fed-piece s) (sym one), fed.1 (omega arith))

@@ -10,12 +10,6 @@ pub returns-then-not-well_formed : goal.returns-then-not-well_formed
 unfolding all_well_formed
 returns-then-not-well_formed c = one_fails _ (omega arith) (sym c.well_formed-in-loop-n.ensures ∙ c.if-not-well_formed.true)
 
-pub loop-n-preserved : goal.loop-n-preserved
-loop-n-preserved c = below_more _ _ c.loop-n.invariant (sym c.well_formed-in-loop-n.ensures ∙ c.if-not-well_formed.false)
-
 pub returns : goal.returns
 unfolding all_well_formed
 returns c = none_fails _ (omega arith) c.loop-n.invariant
-
-pub loop-n-init : goal.loop-n-init
-loop-n-init c = below_none _

@@ -32,8 +32,5 @@ pub loop-k-preserved : goal.loop-k-preserved
 loop-k-preserved c = below_more _ _ c.loop-k.invariant
     (pair (goal.at.loop-k-preserved c).After-column-in-loop-k ∙ eq-eqb (common (goal.at.loop-k-preserved c).After-column-in-loop-k) 0 (omega arith))
 
-pub loop-k-init : goal.loop-k-init
-loop-k-init c = below_none _
-
 pub returns : goal.returns
 returns c = none_fails _ (omega arith) c.loop-k.invariant

@@ -19,8 +19,5 @@ loop-k-preserved c =
     below_more _ _ c.loop-k.invariant
     (ap (λ (w : ℕ). leb w 511) (sym c.word.ensures) ∙ le-leb c.word.result 511 (omega arith))
 
-pub loop-k-init : goal.loop-k-init
-loop-k-init c = below_none _
-
 pub returns : goal.returns
 returns c = none_fails _ (omega arith) c.loop-k.invariant

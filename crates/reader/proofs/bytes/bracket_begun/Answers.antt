@@ -1,14 +1,8 @@
 -- `bytes::bracket_begun`: where ESC [ begins a command it is pending; else the definition's tests of the byte all fail.
 use mathlib.Core.Path.{◌∙◌}
 use Rattle.printer.specs.Bytes.{text_escape}
-use Rattle.printer.specs.Escapes.{escape}
 use Rattle.reader.proofs.bytes.bracket_begun.Goals as goal
 
 pub returns-then-brackets : goal.returns-then-brackets
 unfolding text_escape
 returns-then-brackets c m = c.waiting.ensures m ∙ simp (← c.brackets.ensures, c.if-brackets.true)
-
-pub returns-else-brackets : goal.returns-else-brackets
-unfolding text_escape escape
-returns-else-brackets c m =
-    simp (c.noted.ensures, c.with_pending.ensures, ← c.brackets.ensures, c.if-brackets.false)

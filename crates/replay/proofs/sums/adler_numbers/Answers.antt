@@ -1,18 +1,17 @@
--- A turn takes the two bytes of a number more, and at the end no number is left.
-use Rattle.std.proofs.Common.{sym, ◌∙◌, arith}
-use Rattle.replay.proofs.Summing.{numbers_more, numbers_summed}
+-- A turn takes the two bytes of a number more.
+use Rattle.std.proofs.Common.{◌∙◌, ℕ, ◌+◌, List, ◌∷◌, get_or, drop, ap, arith}
+use Rattle.replay.specs.Adler.{sum_on, two_bytes}
+use Rattle.replay.proofs.TwoBytes.{number_more}
 use Rattle.replay.proofs.sums.adler_numbers.Goals as goal
 
-pub loop-i-preserved : goal.loop-i-preserved
-loop-i-preserved c = (
-  c.loop-i.invariant.0
-      ∙ numbers_more c.args.numbers.now c.loop-i.i c.loop-i.first c.loop-i.second c.loop-i-test.true c.high_byte.ensures.value
-      c.low_byte.ensures.value c.reduced-first.ensures.value c.reduced-second.ensures.value c.reduced-first-in-loop-i.ensures.value
-      c.reduced-second-in-loop-i.ensures.value,
-  omega (arith, c.loop-i-test.true),
-  c.reduced-first-in-loop-i.ensures.upper_bound,
-  c.reduced-second-in-loop-i.ensures.upper_bound,
-)
-
-pub returns : goal.returns
-returns c = sym (c.loop-i.invariant.0 ∙ numbers_summed c.args.numbers.now c.loop-i.i _ _ c.loop-i-test.false)
+pub loop-number-preserved : goal.loop-number-preserved
+loop-number-preserved c =
+    let i = c.loop-number.number-index in
+    let halves = c.loop-number.halves in
+    let bs = c.to_be_bytes.result in
+    let rest : List ℕ = two_bytes (drop (i + 1) c.args.numbers.now) in
+    c.loop-number.invariant
+    ∙ ap (λ (xs : List ℕ). sum_on xs halves.first halves.second)
+    (number_more c.args.numbers.now bs i c.loop-number-test.true (omega (arith, c.type_inv.numbers i)) c.to_be_bytes.ensures)
+    ∙ c.with.ensures (get_or bs 1 0 ∷ rest)
+    ∙ c.with-halves.ensures rest

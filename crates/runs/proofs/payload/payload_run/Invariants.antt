@@ -1,5 +1,5 @@
 -- `payload::payload_run`: each byte that the download lacks leads the machine one staged byte on; a download that has all of them ends the run.
-use Prim.Native.Nat.{ℕ, ◌-◌}
+use Prim.Native.Nat.{ℕ}
 use mathlib.Core.List.{List}
 use mathlib.Core.Path.{◌≡◌}
 use lib.ListN.{length}
@@ -20,6 +20,3 @@ pub record Inv (piece staging₀ staging : List ℕ) (p : Printer) (place n : �
 
 abbrev pub invariant-loop-k : goal.invariant-loop-k
 invariant-loop-k l = Inv l.piece l.initial.staging l.staging l.p l.place l.n l.l l.job l.k
-
-abbrev pub decreases-loop-k : goal.decreases-loop-k
-decreases-loop-k l = l.n - l.k

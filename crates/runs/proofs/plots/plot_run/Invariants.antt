@@ -1,5 +1,5 @@
 -- `plots::plot_run`: each byte that is a column and fits leads the machine one column on; the first that is none ends the run.
-use Prim.Native.Nat.{ℕ, ◌-◌, ◌≤◌}
+use Prim.Native.Nat.{ℕ, ◌≤◌}
 use mathlib.Core.List.{List}
 use mathlib.Core.Path.{◌≡◌}
 use lib.ListN.{length}
@@ -22,6 +22,3 @@ pub record Inv (piece line₀ line : List ℕ) (n : ℕ) (q₀ q : Printer) (k :
 
 abbrev pub invariant-loop-k : goal.invariant-loop-k
 invariant-loop-k l = Inv l.piece l.initial.line l.line l.n l.initial.q l.q l.k
-
-abbrev pub decreases-loop-k : goal.decreases-loop-k
-decreases-loop-k l = l.n - l.k

@@ -1,5 +1,5 @@
 -- `text::characters`: each byte that prints and whose cell has room leads the machine one character on; the first that does not ends the run.
-use Prim.Native.Nat.{ℕ, ◌-◌, ◌≤◌}
+use Prim.Native.Nat.{ℕ, ◌≤◌}
 use mathlib.Core.Bool.{cond}
 use mathlib.Core.List.{List}
 use mathlib.Core.Path.{◌≡◌}
@@ -23,6 +23,3 @@ pub record Inv (piece line₀ line glyphs : List ℕ) (n : ℕ) (q₀ q : Printe
 
 abbrev pub invariant-loop-k : goal.invariant-loop-k
 invariant-loop-k l = Inv l.piece l.initial.line l.line l.glyphs l.n l.initial.q l.q l.k
-
-abbrev pub decreases-loop-k : goal.decreases-loop-k
-decreases-loop-k l = l.n - l.k

@@ -1,47 +1,49 @@
 -- `groups::fields`: each turn puts the next column below the fields; with those of the columns left below them they are the fields of all eight, and
 -- each takes five bits at most.
-use Prim.Native.Nat.{◌+◌, ◌*◌, ◌/◌, ◌%◌, ◌^◌, ◌<◌}
-use mathlib.Core.Path.{refl}
+use Prim.Native.Nat.{ℕ, ◌+◌, ◌*◌, ◌%◌, ◌^◌, ◌<◌, ◌≤◌}
+use mathlib.Core.Path.{◌≡◌, ap}
 use native.Mathlib.Omega.{arith}
 use native.Mathlib.Nat.{mod-lt}
-use lib.Dec.{lit<}
-use lib.Pow.{shr_le}
-use lib.ListN.{get_or}
-use borrow.Author.Rules.{rules}
-use Rattle.striking.proofs.Grouping.{field_more, field_last, field_below, fields-small}
+use lib.Pow.{pow_pos}
+use lib.ListN.{length}
+use Rattle.striking.proofs.Grouping.{field_more, field_last, field_below, fields-small, five_bits, one_moved}
 use Rattle.striking.proofs.groups.fields.Goals as goal
-use Rattle.striking.proofs.groups.fields.Goals.{After-shared_slice_known-1}
+use Rattle.striking.proofs.groups.fields.Goals.{After-from}
+use Rattle.striking.proofs.groups.fields.Given.{Over}
 
-pub overflow_cast-wires-in-loop-k : goal.overflow_cast-wires-in-loop-k
-overflow_cast-wires-in-loop-k c =
-    let a = c.args in
-    let at = a.c + c.loop-k.k in
-    omega (arith, shr_le (get_or a.line.now at 0) a.skip, c.shared_slice_known-1.given at)
-
-small : (c : After-shared_slice_known-1) → let a = c.args in let l = c.loop-k in
-    l.f * a.base + get_or a.line.now (a.c + l.k) 0 / 2 ^ a.skip % a.base < 2 ^ 40
-small c =
-    let pre = c.requires in
-    let l = c.loop-k in
-    fields-small l.f _ _ l.k pre.2 (mod-lt _ pre.1) l.invariant.2 (omega arith)
-
-pub loop-k-preserved : goal.loop-k-preserved
-loop-k-preserved c =
-    let pre = c.requires in
-    let l = c.loop-k in (
-      field_more _ _ pre.0 _ _ l.k l.f _ (omega arith) l.invariant.0,
-      search rules,
-      field_below l.f _ _ l.k pre.2 (mod-lt _ pre.1) l.invariant.2,
+pub loop-column-preserved : goal.loop-column-preserved
+loop-column-preserved g c =
+    let l = c.loop-column in
+    let base : ℕ = 2 ^ g.row.N in
+    let inside : l.column-index < length c.args.columns.now = c.loop-column-test.true in
+    rw (one_moved g.row.N c.requires.1) (
+      rw c.from.ensures (field_more c.args.columns.now base c.args.skip l.column-index l.f _ inside l.invariant.0),
+      field_below l.f base _ l.column-index (five_bits g.row.N c.requires.1) (mod-lt _ (pow_pos g.row.N)) l.invariant.1,
     )
 
 pub returns : goal.returns
-returns c = field_last _ _ c.requires.0 _ _ c.loop-k.k _ _ (omega arith) c.loop-k.invariant.0
+returns g c =
+    let l = c.loop-column in
+    let end : length c.args.columns.now ≤ l.column-index = c.loop-column-test.false in
+    field_last c.args.columns.now (2 ^ g.row.N) c.args.skip l.column-index l.f _ end l.invariant.0
 
-pub loop-k-init : goal.loop-k-init
-loop-k-init c = (refl, search rules, lit< tt)
+-- with one more put below them the fields take forty bits at most
+small : (g : Over) (c : After-from g) → let l = c.loop-column in let base : ℕ = 1 * 2 ^ g.row.N % 2 ^ 64 in
+    l.f * base + c.from.result % base < 2 ^ 40
+small g c =
+    let l = c.loop-column in
+    rw (one_moved g.row.N c.requires.1)
+    (fields-small l.f (2 ^ g.row.N) _ l.column-index (five_bits g.row.N c.requires.1) (mod-lt _ (pow_pos g.row.N)) l.invariant.1
+    (omega (arith, c.requires.0, c.loop-column-test)))
 
 pub overflow_mul-f : goal.overflow_mul-f
-overflow_mul-f c = omega (arith, small c)
+overflow_mul-f g c =
+    let l = c.loop-column in
+    let base : ℕ = 2 ^ g.row.N in
+    let same : l.f * (1 * base % 2 ^ 64) ≡ l.f * base = ap (λ (n : ℕ). l.f * n) (one_moved g.row.N c.requires.1) in
+    let below : l.f * base + 0 < 2 ^ 40 = fields-small l.f base 0 l.column-index (five_bits g.row.N c.requires.1) (pow_pos g.row.N) l.invariant.1
+    (omega (arith, c.requires.0, c.loop-column-test)) in
+    omega (arith, same, below)
 
 pub overflow_add-f : goal.overflow_add-f
-overflow_add-f c = omega (arith, small c)
+overflow_add-f g c = omega (arith, small g c)

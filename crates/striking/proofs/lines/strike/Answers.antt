@@ -5,4 +5,4 @@ use Rattle.striking.proofs.lines.strike.Goals as goal
 
 pub returns : goal.returns
 returns c =
-    record { page_after = c.onto.ensures; line_after = c.empty.ensures ∙ line_emptied _ c.args.line.now c.requires.full }
+    record { page_after = c.onto.ensures; line_after = c.fill.ensures.after (λ y same. same) ∙ line_emptied _ c.args.line.now c.requires.full }

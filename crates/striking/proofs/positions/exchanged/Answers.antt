@@ -3,11 +3,7 @@ use Prim.Native.Nat.{ℕ, ◌*◌, ◌/◌}
 use mathlib.Core.Path.{ap}
 use lib.Bits.{bit_and, bit_xor}
 use Rattle.striking.specs.Turning.{made, turn}
-use Rattle.striking.proofs.Grouping.{masked-fits}
 use Rattle.striking.proofs.positions.exchanged.Goals as goal
-
-pub overflow_mul-result : goal.overflow_mul-result
-overflow_mul-result c = let a = c.args in masked-fits (bit_xor a.f (a.f / a.up)) a.moved a.up c.requires.1
 
 pub returns : goal.returns
 unfolding made turn

@@ -2,7 +2,6 @@
 use Prim.Native.Nat.{ℕ, ◌+◌}
 use mathlib.Core.Path.{◌≡◌, refl, ap, ap₂, ◌∙◌}
 use mathlib.Core.List.{List}
-use native.Mathlib.Omega.{arith}
 use lib.ListN.{take, drop}
 use Rattle.sheet.specs.declared.Pitch.{Pitch}
 use Rattle.sheet.specs.Edition.{dg6215}
@@ -55,6 +54,3 @@ returns c line pitch r first inside small top-is upper_is lower-is place =
     ∙ ap (λ (t : ℕ). wired dg6215 2 (pairs t a.upper a.lower) a.at a.page.now 9) top-is
     ∙ ap₂ (λ (u l : ℕ). wired dg6215 2 (pairs (made ns topmost) u l) a.at a.page.now 9) upper_is lower-is
     ∙ nine_wired dg6215 2 _ _ _ (take 16 (drop first line)) 1 (wires_strike line first inside small) pitch r first (apart pitch) place
-
-pub overflow_add-at-8 : goal.overflow_add-at-8
-overflow_add-at-8 c = omega (arith, (goal.at.overflow_add-at-8 c).Start)

@@ -3,10 +3,7 @@ use Prim.Native.Nat.{ℕ, ◌*◌}
 use mathlib.Core.Path.{◌≡◌, ap, ap₂, ◌∙◌}
 use mathlib.Core.List.{List, [], ◌∷◌}
 use lib.Bits.{bit_xor}
-use lib.Dec.{lit<}
-use borrow.Author.Rules.{rules}
 use Rattle.striking.specs.Turning.{number, made, turn, turned, paired, differing, left, right, two_to_five, six_to_nine, topmost}
-use Rattle.striking.proofs.Grouping.{masked-fits}
 use Rattle.striking.proofs.positions.sixteen_columns.Goals as goal
 use Rattle.striking.proofs.positions.sixteen_columns.Goals.{After-turned-lower, After-turned-upper, Start}
 
@@ -38,6 +35,3 @@ returns c line pitch r first inside small same place =
     (c.topmost-top.ensures ∙ ap (λ (ns : List ℕ). made ns topmost) same)
     (upper_is (goal.at.returns c).After-turned-upper ∙ ap (λ (ns : List ℕ). made ns two_to_five) same)
     (lower-is (goal.at.returns c).After-turned-lower ∙ ap (λ (ns : List ℕ). made ns six_to_nine) same) place
-
-pub overflow_mul-differing : goal.overflow_mul-differing
-overflow_mul-differing c = search (rules, masked-fits, lit<)

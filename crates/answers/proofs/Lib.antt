@@ -1,2 +1,0 @@
--- What the lengths of the memory say.
-pub mod Lengths

@@ -1,0 +1,2 @@
+-- What a desk lends to a call.
+pub mod Lending
