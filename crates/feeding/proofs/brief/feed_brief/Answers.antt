@@ -98,8 +98,10 @@ returns-in-Some-clause-done c =
     let s = (goal.at.returns-in-Some-clause-done c).Start in
     let k = (goal.at.returns-in-Some-clause-done c).After-state_with-p in
     let fed =
-    byte_fed (lent s) (byte s) _ _ _ (ran (goal.at.returns-in-Some-clause-done c).After-single) c.in-Some.is (told s) (rests (goal.at.returns-in-Some-clause-done c).Else-not-at_rest)
-    c.if-report-ne-REPORT_WORDS.false k.state_with-p.ensures (described_proper k.state_with-p.result.model) (ready (goal.at.returns-in-Some-clause-done c).Else-not-feedable)
+    byte_fed (lent s) (byte s) _ _ _ (ran (goal.at.returns-in-Some-clause-done c).After-single) c.in-Some.is (told s)
+    (rests (goal.at.returns-in-Some-clause-done c).Else-not-at_rest)
+    c.if-report-ne-REPORT_WORDS.false k.state_with-p.ensures (described_proper k.state_with-p.result.model)
+    (ready (goal.at.returns-in-Some-clause-done c).Else-not-feedable)
     (c.advance.ensures k.state_with-p.result (words-held k)) c.tell-in-Some.ensures in
     let one = one_byte s.args.piece.now (short (goal.at.returns-in-Some-clause-done c).Else-not-brief) c.if-piece-eq0.false in
     λ q. (fed.0 ∙ ap (fed-piece s) (sym one), fed.1 (omega arith))

@@ -59,7 +59,8 @@ room c = let fits : (ran_to (goal.at.Else-after c).After-run-ran).printer.job < 
 
 pub run-ran-requires : goal.run-ran-requires
 run-ran-requires c =
-    let l = c.loop-i in writable (described_proper l.q.model) (ready_here l.invariant.underway) (rw (font-here (goal.at.run-ran-requires c).In-loop-i) c.requires.1)
+    let l = c.loop-i in writable (described_proper l.q.model) (ready_here l.invariant.underway)
+    (rw (font-here (goal.at.run-ran-requires c).In-loop-i) c.requires.1)
 
 pub overflow_add-at : goal.overflow_add-at
 overflow_add-at c = omega (arith, (ran (goal.at.overflow_add-at c).After-run-ran).within, (goal.at.overflow_add-at c).Start)
@@ -81,8 +82,11 @@ bounds-piece-at c = more (goal.at.bounds-piece-at c).Else-at-piece
 
 pub step-s-requires : goal.step-s-requires
 step-s-requires c =
-    let r = (goal.at.step-s-requires c).After-run-ran in
-    (ready_room (described_proper (ran_to r).printer.model) (ready_here (ran r)) (rw (font-here (goal.at.step-s-requires c).In-loop-i) c.requires.1), room (goal.at.step-s-requires c).Else-after)
+    let r = (goal.at.step-s-requires c).After-run-ran in (
+      ready_room (described_proper (ran_to r).printer.model) (ready_here (ran r)) (rw (font-here (goal.at.step-s-requires c).In-loop-i)
+          c.requires.1),
+      room (goal.at.step-s-requires c).Else-after,
+    )
 
 pub answer_to-requires : goal.answer_to-requires
 answer_to-requires c = omega (arith, more (goal.at.answer_to-requires c).Else-at-piece, (goal.at.answer_to-requires c).Start)

@@ -18,11 +18,15 @@ acts c q = act (edition_of c.args.p) c.args.memory.now.font.now q c.args.b c.arg
 
 pub returns-in-Tabs-clause-stepped : goal.returns-in-Tabs-clause-stepped
 unfolding act
-returns-in-Tabs-clause-stepped c = acted (acts (goal.at.returns-in-Tabs-clause-stepped c).Start) c.in-Tabs.is (c.tab_byte.ensures (lent (goal.at.returns-in-Tabs-clause-stepped c).Start))
+returns-in-Tabs-clause-stepped c =
+    acted (acts (goal.at.returns-in-Tabs-clause-stepped c).Start) c.in-Tabs.is
+    (c.tab_byte.ensures (lent (goal.at.returns-in-Tabs-clause-stepped c).Start))
 
 pub returns-in-Select-clause-stepped : goal.returns-in-Select-clause-stepped
 unfolding act
-returns-in-Select-clause-stepped c = acted (acts (goal.at.returns-in-Select-clause-stepped c).Start) c.in-Select.is (c.waiting.ensures (lent (goal.at.returns-in-Select-clause-stepped c).Start))
+returns-in-Select-clause-stepped c =
+    acted (acts (goal.at.returns-in-Select-clause-stepped c).Start) c.in-Select.is
+    (c.waiting.ensures (lent (goal.at.returns-in-Select-clause-stepped c).Start))
 
 pub returns-in-SelectLow-clause-stepped : goal.returns-in-SelectLow-clause-stepped
 returns-in-SelectLow-clause-stepped c =
@@ -32,7 +36,8 @@ returns-in-SelectLow-clause-stepped c =
 pub returns-in-CountHigh-clause-stepped : goal.returns-in-CountHigh-clause-stepped
 unfolding act
 returns-in-CountHigh-clause-stepped c =
-    acted (acts (goal.at.returns-in-CountHigh-clause-stepped c).Start) c.in-CountHigh.is (c.waiting-in-CountHigh.ensures (lent (goal.at.returns-in-CountHigh-clause-stepped c).Start))
+    acted (acts (goal.at.returns-in-CountHigh-clause-stepped c).Start) c.in-CountHigh.is
+    (c.waiting-in-CountHigh.ensures (lent (goal.at.returns-in-CountHigh-clause-stepped c).Start))
 
 pub returns-in-CountLow-clause-stepped : goal.returns-in-CountLow-clause-stepped
 returns-in-CountLow-clause-stepped c =
@@ -42,7 +47,8 @@ returns-in-CountLow-clause-stepped c =
 pub returns-in-AddressHigh-clause-stepped : goal.returns-in-AddressHigh-clause-stepped
 unfolding act
 returns-in-AddressHigh-clause-stepped c =
-    acted (acts (goal.at.returns-in-AddressHigh-clause-stepped c).Start) c.in-AddressHigh.is (c.waiting-in-AddressHigh.ensures (lent (goal.at.returns-in-AddressHigh-clause-stepped c).Start))
+    acted (acts (goal.at.returns-in-AddressHigh-clause-stepped c).Start) c.in-AddressHigh.is
+    (c.waiting-in-AddressHigh.ensures (lent (goal.at.returns-in-AddressHigh-clause-stepped c).Start))
 
 pub returns-in-AddressLow-clause-stepped : goal.returns-in-AddressLow-clause-stepped
 returns-in-AddressLow-clause-stepped c =
@@ -51,4 +57,6 @@ returns-in-AddressLow-clause-stepped c =
 
 pub returns-in-Bracket-clause-stepped : goal.returns-in-Bracket-clause-stepped
 unfolding act
-returns-in-Bracket-clause-stepped c = acted (acts (goal.at.returns-in-Bracket-clause-stepped c).Start) c.in-Bracket.is (c.bracket_byte.ensures (lent (goal.at.returns-in-Bracket-clause-stepped c).Start))
+returns-in-Bracket-clause-stepped c =
+    acted (acts (goal.at.returns-in-Bracket-clause-stepped c).Start) c.in-Bracket.is
+    (c.bracket_byte.ensures (lent (goal.at.returns-in-Bracket-clause-stepped c).Start))
