@@ -1,2 +1,3 @@
--- What form settings rest on.
+-- What downloads and form settings rest on.
+pub mod Copying
 pub mod Reforming

@@ -31,13 +31,22 @@ pub fn loaded(l: Load, b: u8) -> Load
     }
 }
 
+// Copies the first n bytes of `from` over the first n of `to`. By a loop, so that the library for C needs no copier from outside.
+fn copy(to: &mut [u8], from: &[u8], n: usize)
+    requires { (n ≤ length to.old) × (n ≤ length from.now) }
+    ensures { to.new ≡ take n from.now ++ drop n to.old }
+{
+    for i in 0..n {
+        to[i] = from[i];
+    }
+}
+
 // Puts the first n staged bytes into the download store from byte `at` on.
-#[tactic(auto, unfolding(printer::specs::Downloads::replaced))]
 fn replace(store: &mut [u8], staging: &[u8], at: usize, n: usize)
     requires { (at + n ≤ length store.old) × (n ≤ length staging.now) }
     ensures { store.new ≡ replaced at n staging.now store.old }
 {
-    store[at..at + n].copy_from_slice(&staging[..n]);
+    copy(&mut store[at..], staging, n);
 }
 
 // The addresses of the download store: its first, and the one past its last.
