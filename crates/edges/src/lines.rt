@@ -3,7 +3,7 @@ use crate::memory::Told;
 use printer::Closing;
 use protocol::Answer;
 use protocol::numbers::{answer_number, note_number};
-use report::{Unwritten, say, say_number};
+use report::{Closings, Unwritten, say, say_number};
 
 // Writes words, what a feeding answered and how many bytes it took, and of a note its number and place.
 pub fn say_feeding(rt: &(impl Print + Eprint), words: &[u8], t: Told) -> Result<(), Unwritten> {
@@ -32,7 +32,14 @@ pub fn say_closing(
     words: &[u8],
     closing: Closing,
 ) -> Result<(), Unwritten> {
-    report::say_closing(rt, words, closing, b"10")
+    say(rt, words)?;
+    let closings = Closings {
+        clean: b"CLEAN\n",
+        unprinted: b"LINE\n",
+        unfinished: b"OPEN ",
+        unsound: b"10\n",
+    };
+    report::say_closing(rt, closings, closing)
 }
 
 // Writes a line's kind and name.

@@ -4,6 +4,7 @@
 
 ghost use Rattle.std.specs.Prelude.{◌≤◌, length};
 
+use memory::Space;
 use report::{Unwritten, say, unread};
 use std::io::Read;
 use walk::walk;
@@ -19,9 +20,13 @@ mod walk;
 const TABLE_SPACE: usize = 65536;
 
 // Performs a table, or says that it fills its store, and may be longer.
-fn perform_table(rt: &(impl Print + Eprint), table: &[u8]) -> Result<(), Unwritten> {
+fn perform_table(
+    rt: &(impl Print + Eprint),
+    table: &[u8],
+    space: &mut Space,
+) -> Result<(), Unwritten> {
     if table.len() < TABLE_SPACE {
-        walk(rt, table)
+        walk(rt, table, space)
     } else {
         say(rt, b"EDGE table too long\n")
     }
@@ -45,5 +50,5 @@ fn main(rt: HostRuntime) {
     if count == 0 {
         unread(&rt);
     }
-    let _ = perform_table(&rt, &table[..count]);
+    let _ = perform_table(&rt, &table[..count], &mut Space::new());
 }

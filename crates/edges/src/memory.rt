@@ -53,6 +53,16 @@ fn is_marked<M: Mark>(numbers: &[M], first: u8) -> bool {
     true
 }
 
+// Whether numbers are all 0.
+fn is_zero<M: Mark>(numbers: &[M]) -> bool {
+    let zero = M::from(BLANK);
+    let mut any = false;
+    for number in numbers {
+        any |= *number != zero;
+    }
+    !any
+}
+
 // What a call gave back: its answer, and the bytes taken.
 #[derive(Clone, Copy)]
 pub struct Told {
@@ -82,22 +92,27 @@ pub struct Space {
 }
 
 impl Space {
-    // Memory that is marked from a first number on.
-    pub fn new(lent: Sizes, first: u8) -> Space {
-        let mut space = Space {
+    // Blank memory that fits.
+    pub fn new() -> Space {
+        Space {
             page: [0; PAGE_SPACE],
             line: [0; LINE_SPACE],
             staging: [0; STORE_SPACE],
             store: [0; STORE_SPACE],
             font: [0; STORE_SPACE],
-            lent,
-            first,
-        };
-        mark_from(&mut space.page, first);
-        mark_from(&mut space.line, first);
-        mark_from(&mut space.staging, first);
-        mark_from(&mut space.store, first);
-        space
+            lent: Sizes::exact(),
+            first: BLANK,
+        }
+    }
+
+    // Marks it from a first number on, and sets how much of it is lent.
+    fn mark(&mut self, lent: Sizes, first: u8) {
+        mark_from(&mut self.page, first);
+        mark_from(&mut self.line, first);
+        mark_from(&mut self.staging, first);
+        mark_from(&mut self.store, first);
+        self.lent = lent;
+        self.first = first;
     }
 
     // Opens the form of the state, which is left as the call gives it back.
@@ -163,10 +178,10 @@ impl Space {
 
     // Whether its exact lengths are blank.
     pub fn is_blank(&self) -> bool {
-        is_marked(&self.page[..PAGE_BYTES], BLANK)
-            && is_marked(&self.line[..LP2_LINE_NUMBERS], BLANK)
-            && is_marked(&self.staging[..STORE_BYTES], BLANK)
-            && is_marked(&self.store[..STORE_BYTES], BLANK)
+        is_zero(&self.page[..PAGE_BYTES])
+            && is_zero(&self.line[..LP2_LINE_NUMBERS])
+            && is_zero(&self.staging[..STORE_BYTES])
+            && is_zero(&self.store[..STORE_BYTES])
     }
 
     // What is in staging at a place.
@@ -180,19 +195,18 @@ impl Space {
     }
 }
 
-// What came of a case: what its call gave back, with the state, the offer of the piece's rest after it, and the memory after both.
-#[derive(Drop)]
+// What came of a case: what its call gave back, with the state, and the offer of the piece's rest after it.
+#[derive(Clone, Copy)]
 pub struct Tried {
     pub fed: Told,
     pub state: State,
     pub rest: Told,
     pub after: State,
-    pub space: Space,
 }
 
 // Performs a case's call in memory that is marked from a first number on, and offers the rest of the piece.
-pub fn try_case(c: &Case, first: u8) -> Tried {
-    let mut space = Space::new(c.lent, first);
+pub fn try_case(c: &Case, first: u8, space: &mut Space) -> Tried {
+    space.mark(c.lent, first);
     let piece = c.sent();
     let mut state = c.state;
     let fed = if c.kind == Kind::Open {
@@ -207,13 +221,13 @@ pub fn try_case(c: &Case, first: u8) -> Tried {
         state,
         rest,
         after,
-        space,
     }
 }
 
 // Feeds a piece to a state that came back, in blank memory that fits.
-pub fn feed_next(state: &mut State, piece: &[u8]) -> Told {
-    Space::new(Sizes::exact(), BLANK).offer(state, piece, 0)
+pub fn feed_next(state: &mut State, piece: &[u8], space: &mut Space) -> Told {
+    space.mark(Sizes::exact(), BLANK);
+    space.offer(state, piece, 0)
 }
 
 // What closing a state answers.

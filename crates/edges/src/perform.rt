@@ -1,17 +1,17 @@
 // What each kind of case does, and the rest of its line after the name.
 use crate::case::{Case, Kind, Shown, State, View};
 use crate::lines::{say_closing, say_feeding, say_same};
-use crate::memory::{BLANK, MARKED, close_state, feed_next, try_case};
+use crate::memory::{BLANK, MARKED, Space, close_state, feed_next, try_case};
 use protocol::numbers::answer_number;
 use report::{Unwritten, say, say_number};
 
 // Opens a job in marked memory, and feeds the piece, if there is one, to the state that came back.
-fn open_case(rt: &(impl Print + Eprint), c: &Case) -> Result<(), Unwritten> {
-    let t = try_case(c, MARKED);
+fn open_case(rt: &(impl Print + Eprint), c: &Case, space: &mut Space) -> Result<(), Unwritten> {
+    let t = try_case(c, MARKED, space);
     let closing = close_state(&t.state);
-    let same = t.space.is_same();
+    let same = space.is_same();
     say_number(rt, b": ", answer_number(t.fed.answer))?;
-    if t.space.is_blank() && !same {
+    if space.is_blank() && !same {
         return say_closing(rt, b", memory blank, close ", closing);
     }
     say_same(rt, b", memory", same)?;
@@ -20,9 +20,10 @@ fn open_case(rt: &(impl Print + Eprint), c: &Case) -> Result<(), Unwritten> {
 }
 
 // Compares two states, or marked memory before and after a piece.
-fn compare_case(rt: &(impl Print + Eprint), c: &Case) -> Result<(), Unwritten> {
+fn compare_case(rt: &(impl Print + Eprint), c: &Case, space: &mut Space) -> Result<(), Unwritten> {
     if c.piece.is_some() {
-        say_same(rt, b": memory", try_case(c, MARKED).space.is_same())?;
+        let _ = try_case(c, MARKED, space);
+        say_same(rt, b": memory", space.is_same())?;
     } else {
         say_same(rt, b": state", c.state == c.other)?;
     }
@@ -30,29 +31,31 @@ fn compare_case(rt: &(impl Print + Eprint), c: &Case) -> Result<(), Unwritten> {
 }
 
 // Feeds the piece in marked memory, and then a character, in memory that fits, to the state that came back.
-fn refused_case(rt: &(impl Print + Eprint), c: &Case) -> Result<(), Unwritten> {
-    let t = try_case(c, MARKED);
+fn refused_case(rt: &(impl Print + Eprint), c: &Case, space: &mut Space) -> Result<(), Unwritten> {
+    let t = try_case(c, MARKED, space);
+    let same = space.is_same();
     let mut next = t.state;
-    let then = feed_next(&mut next, b"A");
+    let then = feed_next(&mut next, b"A", space);
     say_feeding(rt, b": ", t.fed)?;
-    say_same(rt, b", memory", t.space.is_same())?;
+    say_same(rt, b", memory", same)?;
     say_same(rt, b", state", t.state == c.state)?;
     say_feeding(rt, b", then ", then)?;
     say_closing(rt, b", close ", close_state(&t.state))
 }
 
 // Feeds the piece in blank memory, and closes the state that was handed in.
-fn sound_case(rt: &(impl Print + Eprint), c: &Case) -> Result<(), Unwritten> {
-    say_feeding(rt, b": ", try_case(c, BLANK).fed)?;
+fn sound_case(rt: &(impl Print + Eprint), c: &Case, space: &mut Space) -> Result<(), Unwritten> {
+    let t = try_case(c, BLANK, space);
+    say_feeding(rt, b": ", t.fed)?;
     say_closing(rt, b", close ", close_state(&c.state))
 }
 
 // Feeds the piece in blank memory, and closes the state that came back. Where there is no piece, closes the state.
-fn close_case(rt: &(impl Print + Eprint), c: &Case) -> Result<(), Unwritten> {
+fn close_case(rt: &(impl Print + Eprint), c: &Case, space: &mut Space) -> Result<(), Unwritten> {
     if c.piece.is_none() {
         return say_closing(rt, b": ", close_state(&c.state));
     }
-    let t = try_case(c, BLANK);
+    let t = try_case(c, BLANK, space);
     say_feeding(rt, b": ", t.fed)?;
     say_closing(rt, b", ", close_state(&t.state))
 }
@@ -66,10 +69,10 @@ fn say_left(rt: &(impl Print + Eprint), state: &State) -> Result<(), Unwritten> 
 }
 
 // Feeds the piece in blank memory, offers its rest, and feeds nothing after that.
-fn limit_case(rt: &(impl Print + Eprint), c: &Case) -> Result<(), Unwritten> {
-    let t = try_case(c, BLANK);
+fn limit_case(rt: &(impl Print + Eprint), c: &Case, space: &mut Space) -> Result<(), Unwritten> {
+    let t = try_case(c, BLANK, space);
     let mut left = t.after;
-    let nothing = feed_next(&mut left, b"");
+    let nothing = feed_next(&mut left, b"", space);
     say_feeding(rt, b": ", t.fed)?;
     say_feeding(rt, b", rest ", t.rest)?;
     say_feeding(rt, b", nothing ", nothing)?;
@@ -77,8 +80,13 @@ fn limit_case(rt: &(impl Print + Eprint), c: &Case) -> Result<(), Unwritten> {
 }
 
 // Writes what is in staging or in the line store at each place that is asked of, after the piece is fed in blank memory.
-fn view_case(rt: &(impl Print + Eprint), c: &Case, view: View) -> Result<(), Unwritten> {
-    let space = try_case(c, BLANK).space;
+fn view_case(
+    rt: &(impl Print + Eprint),
+    c: &Case,
+    view: View,
+    space: &mut Space,
+) -> Result<(), Unwritten> {
+    let _ = try_case(c, BLANK, space);
     say(rt, b":")?;
     for place in view.first..=view.last {
         let number = match view.shown {
@@ -91,16 +99,16 @@ fn view_case(rt: &(impl Print + Eprint), c: &Case, view: View) -> Result<(), Unw
 }
 
 // Performs a case.
-pub fn perform(rt: &(impl Print + Eprint), c: &Case) -> Result<(), Unwritten> {
+pub fn perform(rt: &(impl Print + Eprint), c: &Case, space: &mut Space) -> Result<(), Unwritten> {
     match c.kind {
-        Kind::Open => open_case(rt, c),
-        Kind::Compare => compare_case(rt, c),
-        Kind::Unsound | Kind::Feed => refused_case(rt, c),
-        Kind::Sound => sound_case(rt, c),
+        Kind::Open => open_case(rt, c, space),
+        Kind::Compare => compare_case(rt, c, space),
+        Kind::Unsound | Kind::Feed => refused_case(rt, c, space),
+        Kind::Sound => sound_case(rt, c, space),
         Kind::Limit => match c.view {
-            Some(view) => view_case(rt, c, view),
-            None => limit_case(rt, c),
+            Some(view) => view_case(rt, c, view, space),
+            None => limit_case(rt, c, space),
         },
-        Kind::Close => close_case(rt, c),
+        Kind::Close => close_case(rt, c, space),
     }
 }

@@ -1,6 +1,7 @@
 // Reads the table line by line, and performs each case.
 use crate::case::{Case, Kind, Piece};
 use crate::lines::{say_name, say_unknown};
+use crate::memory::Space;
 use crate::perform::perform;
 use crate::setting::set;
 use report::Unwritten;
@@ -92,22 +93,27 @@ fn read_line(line: &[u8]) -> Option<Line<'_>> {
 }
 
 // Performs the case of a line, if it is understood, or says that it is not.
-fn perform_line(rt: &(impl Print + Eprint), line: &[u8], number: u64) -> Result<(), Unwritten> {
+fn perform_line(
+    rt: &(impl Print + Eprint),
+    line: &[u8],
+    number: u64,
+    space: &mut Space,
+) -> Result<(), Unwritten> {
     match read_line(line) {
         Some(Line { kind, name, case }) => {
             say_name(rt, kind, name)?;
-            perform(rt, &case)
+            perform(rt, &case, space)
         }
         None => say_unknown(rt, number),
     }
 }
 
 // Performs every line but the empty ones and comments, which start with #. The last line ends as the others do.
-pub fn walk(rt: &(impl Print + Eprint), table: &[u8]) -> Result<(), Unwritten> {
+pub fn walk(rt: &(impl Print + Eprint), table: &[u8], space: &mut Space) -> Result<(), Unwritten> {
     for (number, line) in (1u64..).zip(table.split_inclusive(|byte| *byte == b'\n')) {
         match line {
             [b'\n'] | [b'#', .., b'\n'] => {}
-            [line @ .., b'\n'] => perform_line(rt, line, number)?,
+            [line @ .., b'\n'] => perform_line(rt, line, number, space)?,
             _ => say_unknown(rt, number)?,
         }
     }

@@ -6,7 +6,7 @@ use desk::Desk;
 use job::calls::close;
 use printer::{Printer, STORE_BYTES};
 use protocol::Answer;
-use report::{Stopped, Unwritten, say_closing, say_note, say_number, took, unread};
+use report::{Closings, Stopped, Unwritten, say, say_closing, say_note, say_number, took, unread};
 use sheet::Model;
 use std::env::{Env, FillError};
 use std::io::Read;
@@ -31,13 +31,21 @@ struct Listing<'a> {
 // Writes the line of a finished form, whose last byte is the one just taken.
 fn list_form(rt: &(impl Print + Eprint), number: u64, job: u32) -> Result<(), Unwritten> {
     let place = job.wrapping_sub(1);
-    took(rt, println!(rt; "PAGE {number} {place}"))
+    say_number(rt, b"PAGE ", number)?;
+    say_number(rt, b" ", u64::from(place))?;
+    say(rt, b"\n")
 }
 
 // Writes the line of a job's end.
 fn list_end(rt: &(impl Print + Eprint), p: Printer) -> Result<(), Unwritten> {
     say_number(rt, b"END ", u64::from(p.job))?;
-    say_closing(rt, b" ", close(p), b"UNSOUND")
+    let words = Closings {
+        clean: b" CLEAN\n",
+        unprinted: b" LINE\n",
+        unfinished: b" OPEN ",
+        unsound: b" UNSOUND\n",
+    };
+    say_closing(rt, words, close(p))
 }
 
 impl Listing<'_> {

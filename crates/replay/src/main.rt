@@ -2,9 +2,9 @@
 #![tactic(auto)]
 
 use desk::Desk;
-use lines::say_refused;
+use lines::{say_line, say_refused};
 use printer::STORE_BYTES;
-use report::{Stopped, took, unread};
+use report::{Stopped, unread};
 use script::perform;
 use std::io::{ErrorKind, Read};
 
@@ -43,7 +43,7 @@ fn replay_next(
     desk: &mut Desk,
 ) -> Result<(), Stopped> {
     let size = read_length(input)?;
-    took(rt, println!(rt; "SCRIPT {number}"))?;
+    say_line(rt, b"SCRIPT ", number)?;
     if size > LONGEST {
         say_refused(rt)?;
         return Err(Stopped::Ended);

@@ -2,12 +2,12 @@
 ghost use Rattle.std.specs.Prelude.{◌≤◌, length};
 
 use crate::SHORTEST;
-use crate::lines::{say_feeding, say_form, say_left, say_refused};
+use crate::lines::{say_feeding, say_form, say_left, say_line, say_refused};
 use desk::Desk;
 use printer::{Printer, STORE_BYTES};
 use protocol::Answer;
 use protocol::numbers::answer_number;
-use report::{Stopped, took};
+use report::Stopped;
 use sheet::Model;
 
 // A replay so far: the desk with the job on it, the script's font, the printer, and how many forms are finished.
@@ -100,7 +100,7 @@ pub fn perform(rt: &(impl Print + Eprint), script: &[u8], desk: &mut Desk) -> Re
     let (font, pieces) = script[3..].split_at(STORE_BYTES);
     let opened = desk.open(model, usize::from(script[1]), usize::from(script[2]), font);
     let number = answer_number(opened.answer);
-    took(rt, println!(rt; "OPEN {number}"))?;
+    say_line(rt, b"OPEN ", number)?;
     if number != 0 {
         return Ok(());
     }

@@ -50,21 +50,30 @@ pub fn say_note(
     say(rt, b"\n")
 }
 
-// Writes words and how a job closes, an unsound state by a word of the program, and ends the line.
+// The words in which a program tells how a job closes: whole lines, but before an unfinished command's place.
+#[derive(Clone, Copy)]
+pub struct Closings<'a> {
+    pub clean: &'a [u8],
+    pub unprinted: &'a [u8],
+    pub unfinished: &'a [u8],
+    pub unsound: &'a [u8],
+}
+
+// Writes how a job closes in a program's words.
 pub fn say_closing(
     rt: &(impl Print + Eprint),
-    words: &[u8],
+    words: Closings<'_>,
     closing: Closing,
-    unsound: &[u8],
 ) -> Result<(), Unwritten> {
-    say(rt, words)?;
     match closing {
-        Closing::Clean => say(rt, b"CLEAN")?,
-        Closing::Unprinted => say(rt, b"LINE")?,
-        Closing::Unfinished(place) => say_number(rt, b"OPEN ", u64::from(place))?,
-        Closing::Unsound => say(rt, unsound)?,
+        Closing::Clean => say(rt, words.clean),
+        Closing::Unprinted => say(rt, words.unprinted),
+        Closing::Unfinished(place) => {
+            say_number(rt, words.unfinished, u64::from(place))?;
+            say(rt, b"\n")
+        }
+        Closing::Unsound => say(rt, words.unsound),
     }
-    say(rt, b"\n")
 }
 
 // Says that standard input can't be read.
