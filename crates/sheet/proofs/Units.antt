@@ -74,6 +74,13 @@ margins_inside f h =
     let b = (and-eq-true_iff (leb 1 f.top.0) (leb f.top.0 f.bottom.0)).0 a.0 in
     (leb-true _ _ b.0, omega (arith, leb-true f.top.0 f.bottom.0 b.1, leb-true f.bottom.0 f.lines a.1))
 
+-- a line up to line 128 has its first row at 1,524 at most
+pub first_row-most : (f : Form) (n : Line) → n.0 ≤ 128 → (first_row f n).0 ≤ 1524
+unfolding first_row
+first_row-most f n h =
+    let above : n.0 - 1 ≤ 127 = omega arith in
+    omega (arith, mul-le-mul_right (rows_per_line f.spacing) above, twelve_rows f.spacing)
+
 -- every line down to the bottom margin can be struck at its first row
 pub line-fits : (f : Form) (n : Line) → 1 ≤ n.0 → n.0 ≤ f.bottom.0 → fits f (first_row f n) ≡ true
 unfolding fits first_row
